@@ -1,0 +1,5 @@
+-- The definitions that the contracts cite.
+pub mod Board
+pub mod Window
+pub mod Refusals
+pub mod Words

@@ -1,0 +1,3 @@
+-- The table of sums.
+pub mod Drawing
+pub mod Table
