@@ -1,7 +1,11 @@
 // The exported face: what C and Rust programs call. Each function only hands on to the layer that answers.
 ghost use mathlib.Core.Path.{_≡_};
 ghost use Rattle.lengths.specs.Lengths.{compareOf, pair};
+ghost use Rattle.floor.specs.Refusals.{Tells};
+ghost use Rattle.plan.specs.Survey.{lists, SurveyOutcome};
+ghost use Rattle.azebimoru.specs.Matches.{OwnPlan};
 use lengths::Length;
+use plan::Surveyed;
 
 // -1, 0 or 1, as the length of a straight and b diagonal steps is less than that of c and d, the same or more.
 #[no_mangle]
@@ -18,4 +22,40 @@ pub extern "C" fn azebimoru_compare(a: u16, b: u16, c: u16, d: u16) -> i32
             diagonal: d,
         },
     )
+}
+
+// Writes the plan of a floor into the four lists, or refuses by number.
+#[no_mangle]
+pub extern "C" fn azebimoru_survey(
+    w: usize,
+    h: usize,
+    words: &[u64],
+    clearances: &mut [u8],
+    corners: &mut [u16],
+    starts: &mut [u16],
+    neighbours: &mut [u16],
+) -> Surveyed
+    ensures { λ r. ⌜ SurveyOutcome w h (now (words .entry)) (lists (now (clearances .entry)) (now (corners .entry)) (now (starts .entry)) (now (neighbours .entry))) r (lists (now (clearances .exit)) (now (corners .exit)) (now (starts .exit)) (now (neighbours .exit))) ⌝ }
+{
+    plan::survey(words, w, h, clearances, corners, starts, neighbours)
+}
+
+// Whether the four lists are exactly the plan of this floor, which is accepted, and the plan is within its limits.
+#[no_mangle]
+pub extern "C" fn azebimoru_matches(
+    w: usize,
+    h: usize,
+    words: &[u64],
+    clearances: &[u8],
+    corners: &[u16],
+    starts: &[u16],
+    neighbours: &[u16],
+) -> bool
+    ensures { λ r. ⌜ Tells (OwnPlan w h (now (words .entry)) (lists (now (clearances .entry)) (now (corners .entry)) (now (starts .entry)) (now (neighbours .entry)))) r ⌝ }
+{
+    if floor::check_floor(words, w, h) == 0 {
+        plan::matches(words, w, h, clearances, corners, starts, neighbours)
+    } else {
+        false
+    }
 }

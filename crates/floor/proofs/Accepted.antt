@@ -2,7 +2,7 @@
 use Prim.Native.Nat.{ℕ, _*_, _<_, _≤_}
 use mathlib.Core.List.{List}
 use mathlib.Core.Logic.{_⊎_, inl, inr, ⊎-elim}
-use mathlib.Core.Path.{_≡_}
+use mathlib.Core.Path.{_≡_, refl}
 use native.Mathlib.Decide.{ℕ-discrete}
 use native.Mathlib.Nat.{mul-le-mul}
 use native.Mathlib.Omega.{arith}
@@ -65,3 +65,14 @@ pub few-words : (w h : ℕ) (words : List ℕ) → Sized w h words → length wo
 few-words w h words s =
     let n : rowWords w ≤ 4 = omega arith in
     omega (arith, mul-le-mul (s .high) n)
+
+-- and an accepted floor is not refused
+pub rows-pass : (w h : ℕ) (words : List ℕ) → Floor w h words → FirstOf (floorRows w h words) 0
+rows-pass w h words f = inr (sizes, inr (λ n. n (f .sized .counted), inr (f .used, refl)))
+  where
+    sizes : ¬ (SizeRefused w h)
+    sizes =
+        ⊎-elim (λ e. let l = f .some-width in omega arith)
+        (⊎-elim (λ e. let l = f .some-height in omega arith)
+        (⊎-elim (λ e. let l = f .sized .wide in omega arith)
+        (⊎-elim (λ e. let l = f .sized .high in omega arith) (λ e. let l = f .few-cells in omega arith))))

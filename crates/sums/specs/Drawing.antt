@@ -19,3 +19,15 @@ drawn (row ∷ rows) = (2 ^ 64 - 1 - freeWorth row) ∷ drawn rows
 -- the floor of document 01's listing, 5 × 3, with the middle cell blocked
 abbrev pub hall : List ℕ
 hall = drawn ((o ∷ o ∷ o ∷ o ∷ o ∷ []) ∷ (o ∷ o ∷ # ∷ o ∷ o ∷ []) ∷ (o ∷ o ∷ o ∷ o ∷ o ∷ []) ∷ [])
+
+-- 2 × 2 with only (1, 0) blocked
+abbrev pub bent : List ℕ
+bent = drawn ((o ∷ # ∷ []) ∷ (o ∷ o ∷ []) ∷ [])
+
+-- 2 × 2 with (1, 0) and (0, 1) blocked
+abbrev pub split : List ℕ
+split = drawn ((o ∷ # ∷ []) ∷ (# ∷ o ∷ []) ∷ [])
+
+-- 3 × 1 with the middle blocked
+abbrev pub barred : List ℕ
+barred = drawn ((o ∷ # ∷ o ∷ []) ∷ [])

@@ -1,5 +1,6 @@
 //! The listing of the program: bytes in, bytes out.
 use super::floor::{sizes_refused, Floor};
+use super::lengths::Length;
 use super::plan::{survey, Lists, MOST_ARCS, MOST_CORNERS};
 use super::trip::Known;
 use crate::face::Ends;
@@ -55,7 +56,7 @@ fn map(lines: &[&[u8]], w: usize, h: usize) -> Result<Floor, usize> {
 fn query_line(known: &Known, lists: &Lists, [sx, sy, gx, gy]: [usize; 4]) -> String {
     let told = known.expect_any(lists, Ends { sx, sy, gx, gy }, 16_384, 6 * (MOST_CORNERS + 2));
     let [code, a, b, cells, effort] = told.answer;
-    let figure = 10_000 * a + 14_142 * b;
+    let figure = Length { straight: a, diagonal: b }.figure();
     let mut line = format!("{code} {a} {b} {cells} {effort} {figure}");
     if code == 0 {
         line.push_str(" :");

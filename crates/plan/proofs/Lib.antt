@@ -1,0 +1,27 @@
+-- Laws that belong to no one function.
+pub mod Cells
+pub mod Recurrence
+pub mod Orders
+pub mod Beside
+pub mod Selects
+pub mod Listed
+pub mod Marked
+pub mod Rays
+pub mod Aheads
+pub mod Sweeps
+pub mod Passes
+pub mod Linked
+pub mod Risings
+pub mod Pickings
+pub mod Links
+pub mod Insertions
+pub mod Growing
+pub mod Sweeping
+pub mod Fielding
+pub mod Seens
+pub mod Linkings
+pub mod Wipings
+pub mod Surveys
+pub mod SurveyOnly
+pub mod Entries
+pub mod Matched

@@ -1,0 +1,118 @@
+-- Strictly ascending lists are told by what stands in them. Assumes nothing.
+use Prim.Native.Nat.{ℕ, zero, suc, _+_, _≤_, _<_}
+use mathlib.Core.Bool.{Bool, true, false, cond}
+use mathlib.Core.List.{List, [], _∷_, _++_}
+use mathlib.Core.Logic.{_⊎_, inl, inr, ⊎-elim}
+use mathlib.Core.Path.{_≡_, refl, sym, _∙_, ap, ap₂, subst}
+use native.Mathlib.Decide.{ℕ-discrete}
+use native.Mathlib.Nat.{le-trans, lt-trans, lt-irrefl}
+use native.Mathlib.Omega.{arith}
+use lib.Dec.{ltb, eqb}
+use lib.ListN.{length}
+use borrow.Author.Tests.{ltb-true, ltb-false, eqb-true, eqb-false}
+use Rattle.plan.specs.Rising.{In, Above, Rising, insertion}
+
+-- what stands in a list whose entries are above a is above a
+pub above-in : (a t : ℕ) (xs : List ℕ) → Above a xs → In t xs → a < t
+above-in a t [] h i = absurd i
+above-in a t (x ∷ xs) h (inl e) = rw e (h .0)
+above-in a t (x ∷ xs) h (inr i) = above-in a t xs (h .1) i
+
+-- what is above b is above each number up to b
+pub above-less : (a b : ℕ) (xs : List ℕ) → a ≤ b → Above b xs → Above a xs
+above-less a b [] l h = tt
+above-less a b (x ∷ xs) l h = let m = h .0 in (omega arith, above-less a b xs l (h .1))
+
+-- entries that are all above a
+pub all-above : (a : ℕ) (xs : List ℕ) → ((t : ℕ) → In t xs → a < t) → Above a xs
+all-above a [] f = tt
+all-above a (x ∷ xs) f = (f x (inl refl), all-above a xs (λ t i. f t (inr i)))
+
+-- the first of an ascending list that has all of another's entries is no later than the other's first
+first-le : (x y : ℕ) (xs ys : List ℕ) → Above x xs → In y (x ∷ xs) → x ≤ y
+first-le x y xs ys h (inl e) = omega arith
+first-le x y xs ys h (inr i) = let l = above-in x y xs h i in omega arith
+
+-- what stands after the first of an ascending list is not the first
+pub in-tail : (x t : ℕ) (xs : List ℕ) → x < t → In t (x ∷ xs) → In t xs
+in-tail x t xs l (inl e) = absurd (omega arith)
+in-tail x t xs l (inr i) = i
+
+-- two ascending lists in which the same numbers stand are the same
+pub rising-same : (xs ys : List ℕ) → Rising xs → Rising ys → ((t : ℕ) → In t xs → In t ys) → ((t : ℕ) → In t ys → In t xs) → xs ≡ ys
+rising-same [] [] p q f g = refl
+rising-same [] (y ∷ ys) p q f g = absurd (g y (inl refl))
+rising-same (x ∷ xs) [] p q f g = absurd (f x (inl refl))
+rising-same (x ∷ xs) (y ∷ ys) p q f g =
+    let l : y ≤ x = first-le y x ys xs (q .0) (f x (inl refl)) in
+    let m : x ≤ y = first-le x y xs ys (p .0) (g y (inl refl)) in
+    let e : x ≡ y = omega arith in
+    ap₂ _∷_ e
+    (rising-same xs ys (p .1) (q .1)
+    (λ t i. in-tail y t ys (let k = above-in x t xs (p .0) i in omega arith) (f t (inr i)))
+    (λ t i. in-tail x t xs (let k = above-in y t ys (q .0) i in omega arith) (g t (inr i))))
+
+-- an ascending list all of whose entries stand in another is no longer
+pub rising-fewer : (xs ys : List ℕ) → Rising xs → Rising ys → ((t : ℕ) → In t xs → In t ys) → length xs ≤ length ys
+rising-fewer [] ys p q f = omega arith
+rising-fewer (x ∷ xs) [] p q f = absurd (f x (inl refl))
+rising-fewer (x ∷ xs) (y ∷ ys) p q f =
+    let m : length xs ≤ length ys = rising-fewer xs ys (p .1) (q .1) (λ t i. in-tail y t ys (later t i) (f t (inr i))) in
+    omega arith
+  where
+    later : (t : ℕ) → In t xs → y < t
+    later t i =
+        let k = above-in x t xs (p .0) i in
+        let l = first-le y x ys xs (q .0) (f x (inl refl)) in
+        omega arith
+
+-- ---- a number put in its place
+-- what stands in a list with t put in: t, and what stood there
+pub in-inserted : (t : ℕ) (xs : List ℕ) → In t (insertion t xs)
+unfolding insertion
+in-inserted t [] = inl refl
+in-inserted t (x ∷ xs) = by (in-inserted t xs) (ltb t x) (eqb t x) refl
+  where
+    by : In t (insertion t xs) → (b c : Bool) → eqb t x ≡ c → In t (cond b (t ∷ x ∷ xs) (cond c (x ∷ xs) (x ∷ insertion t xs)))
+    by r true c e = inl refl
+    by r false true e = inl (eqb-true t x e)
+    by r false false e = inr r
+
+pub still-in : (u t : ℕ) (xs : List ℕ) → In u xs → In u (insertion t xs)
+unfolding insertion
+still-in u t [] i = absurd i
+still-in u t (x ∷ xs) i = by (λ k. still-in u t xs k) (ltb t x) (eqb t x) i
+  where
+    by : (In u xs → In u (insertion t xs)) → (b c : Bool) → In u (x ∷ xs) → In u (cond b (t ∷ x ∷ xs) (cond c (x ∷ xs) (x ∷ insertion t xs)))
+    by r true c i = inr i
+    by r false true i = i
+    by r false false (inl e) = inl e
+    by r false false (inr i) = inr (r i)
+
+pub was-in : (u t : ℕ) (xs : List ℕ) → In u (insertion t xs) → (u ≡ t) ⊎ In u xs
+unfolding insertion
+was-in u t [] (inl e) = inl e
+was-in u t [] (inr i) = absurd i
+was-in u t (x ∷ xs) i = by (λ k. was-in u t xs k) (ltb t x) (eqb t x) i
+  where
+    by : (In u (insertion t xs) → (u ≡ t) ⊎ In u xs) → (b c : Bool) → In u (cond b (t ∷ x ∷ xs) (cond c (x ∷ xs) (x ∷ insertion t xs))) → (u ≡ t) ⊎ In u (x ∷ xs)
+    by r true c (inl e) = inl e
+    by r true c (inr i) = inr i
+    by r false true i = inr i
+    by r false false (inl e) = inr (inl e)
+    by r false false (inr i) = ⊎-elim inl (λ k. inr (inr k)) (r i)
+
+-- put in its place, it leaves the list ascending
+pub rising-inserted : (t : ℕ) (xs : List ℕ) → Rising xs → Rising (insertion t xs)
+unfolding insertion
+rising-inserted t [] p = (tt, tt)
+rising-inserted t (x ∷ xs) p = by (rising-inserted t xs (p .1)) (ltb t x) (eqb t x) refl refl
+  where
+    by : Rising (insertion t xs) → (b c : Bool) → ltb t x ≡ b → eqb t x ≡ c → Rising (cond b (t ∷ x ∷ xs) (cond c (x ∷ xs) (x ∷ insertion t xs)))
+    by r true c e f = let l = ltb-true t x e in ((l, above-less t x xs (omega arith) (p .0)), p)
+    by r false true e f = p
+    by r false false e f = (
+      all-above x (insertion t xs)
+          (λ u i. ⊎-elim (λ k. let l = ltb-false t x e in let n = eqb-false t x f in omega (arith, n)) (λ k. above-in x u xs (p .0) k) (was-in u t xs i)),
+      r,
+    )

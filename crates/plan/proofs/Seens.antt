@@ -1,0 +1,68 @@
+-- What is seen from a turning point is what it is linked to, and whether two cells are linked is decided. Assumes nothing.
+use Prim.Native.Nat.{ℕ, zero, suc, _*_, _<_}
+use mathlib.Core.Bool.{true, Bool-discrete}
+use mathlib.Core.List.{List, [], _∷_}
+use mathlib.Core.Logic.{inl, inr}
+use mathlib.Core.Path.{_≡_, refl}
+use native.Mathlib.Omega.{arith}
+use lib.ListN.{length, getD}
+use Rattle.floor.specs.Board.{Board, Padded, Place, Free, corner}
+use Rattle.floor.specs.Words.{placeOf}
+use Rattle.floor.proofs.Places.{padded}
+use Rattle.ground.specs.Kind.{walkers}
+use Rattle.ground.specs.Link.{Direct, Link}
+use Rattle.ground.proofs.Choose.{place-discrete}
+use Rattle.ground.proofs.Joined.{direct-dec}
+use Rattle.ground.proofs.Logic.{and-left}
+use Rattle.plan.specs.Plan.{cornerCell, cornerCells, LinkedCells}
+use Rattle.plan.specs.Rising.{In}
+use Rattle.plan.specs.Linking.{Seen}
+use Rattle.plan.proofs.Linked.{shown-link, link-shown}
+use Rattle.plan.proofs.Pickings.{select-in, in-select}
+
+-- a turning point is free
+pub corner-free : (B : Board) (p : Place) → corner B p ≡ true → Free B p
+unfolding corner
+corner-free B p e = and-left (B (p .x) (p .y)) _ e
+
+-- whether two places are linked is decided
+pub link-dec : {B : Board} → Padded B → (s t : Place) → Dec (Link walkers B s t)
+link-dec {B} pad s t = by (Bool-discrete (corner B s) true) (Bool-discrete (corner B t) true) (place-discrete s t) (direct-dec pad s t)
+  where
+    by : Dec (corner B s ≡ true) → Dec (corner B t ≡ true) → Dec (s ≡ t) → Dec (Direct walkers B s t) → Dec (Link walkers B s t)
+    by (no n) b e d = no (λ l. n (l .from))
+    by (yes a) (no n) e d = no (λ l. n (l .to))
+    by (yes a) (yes b) (yes e) d = no (λ l. l .two e)
+    by (yes a) (yes b) (no n) (no d) = no (λ l. d (l .direct))
+    by (yes a) (yes b) (no n) (yes d) = yes (record { from = a; to = b; two = n; direct = d })
+
+-- an entry of a list stands in it
+pub entry-in : (xs : List ℕ) (i : ℕ) → i < length xs → In (getD xs i 0) xs
+entry-in [] i l = absurd (omega arith)
+entry-in (x ∷ xs) zero l = inl refl
+entry-in (x ∷ xs) (suc i) l = inr (entry-in xs i (omega arith))
+
+module _ (w h : ℕ) (words : List ℕ) where
+  -- whether two cells are linked is decided
+  pub linked-dec : (s t : ℕ) → Dec (LinkedCells walkers w h words s t)
+  linked-dec s t = link-dec (padded w h words) (placeOf w s) (placeOf w t)
+
+  -- an entry of the turning points is the cell of one
+  pub corner-entry : (i : ℕ) → i < length (cornerCells w h words) →
+      (getD (cornerCells w h words) i 0 < w * h) × (cornerCell w h words (getD (cornerCells w h words) i 0) ≡ true)
+  corner-entry i l = select-in (cornerCell w h words) (w * h) _ (entry-in (cornerCells w h words) i l)
+
+  module _ (cell : ℕ) (turns : cornerCell w h words cell ≡ true) (t : ℕ) where
+    -- what is seen from a turning point is one to which it is linked
+    pub seen-linked : Seen w h words cell t → In t (cornerCells w h words) × LinkedCells walkers w h words cell t
+    seen-linked s =
+        let shows = s .shown .1 in (
+          in-select (cornerCell w h words) (w * h) t (s .shown .0) (shows .turns),
+          shown-link (padded w h words) (s .field) (s .field-in) shows turns,
+        )
+
+    -- and the other way round
+    pub linked-seen : In t (cornerCells w h words) → LinkedCells walkers w h words cell t → Seen w h words cell t
+    linked-seen i l =
+        let (f, lf, n, shows) = link-shown (padded w h words) l in
+        record { field = f; row = n; field-in = lf; shown = (select-in (cornerCell w h words) (w * h) t i .0, shows) }

@@ -1,0 +1,12 @@
+-- The laws behind the functions' proofs, which callers' proofs may cite.
+pub mod Columns
+pub mod Cells
+pub mod Bracket
+pub mod Ranks
+pub mod Trees
+pub mod Links
+pub mod Decode
+pub mod Steps
+pub mod Follows
+pub mod Running
+pub mod Examples

@@ -1,0 +1,208 @@
+-- What holds between the turns of a run, and what it comes to.
+-- Assumes nothing.
+use mathlib.Core.Path.{_≡_, sym, _∙_, ap}
+use mathlib.Core.Logic.{_⊎_, ⊎-elim}
+use mathlib.Core.Bool.{true, false, true≢false}
+use mathlib.Core.List.{List}
+use mathlib.Core.Option.{some}
+use Prim.Native.Nat.{ℕ, zero, suc, _+_, _-_, _≤_, _<_}
+use native.Mathlib.Nat.{le-of-suc-le-suc}
+use native.Mathlib.Numerals.{add-one}
+use native.Mathlib.Omega.{arith}
+use native.Mathlib.Decide.{ℕ-discrete}
+use lib.ListN.{length, getD, set}
+use lib.Seq.{getD-set-same, getD-set-other}
+use Rattle.settling.specs.Chains.{Shortest}
+use Rattle.settling.specs.Order.{Consistent}
+use Rattle.settling.specs.Labels.{Labels, WaitingAt, First as Start, Step, Sound, NoneAfter}
+use Rattle.settling.specs.Counts.{Counts, with, without, below}
+use Rattle.settling.proofs.Ranks.{no-later-trans, shorter-of-first}
+use Rattle.settling.proofs.Search.{follow, settled-shortest, none-before, settled-reachable, first-sound, step-sound}
+use Rattle.settling.proofs.Tally.{counts-none, counts-at-most, length-below}
+use Rattle.settling.proofs.Effort.{first-none-after, step-counts, none-after-unsettled, effort-without-goal, effort-distinct, settled-in-reach, none-tie}
+use Rattle.search.specs.declared.Trip.{Trip}
+use Rattle.search.specs.Columns.{columnOf, Label, Left}
+use Rattle.search.specs.Chart.{Chart, chart, Fair, wholes, net, order}
+use Rattle.search.specs.Tree.{Right}
+use Rattle.search.specs.Search.{labelsOf, Ready, Foremost, Near, Settling, Blank, Bounded, Outcome, Run}
+use Rattle.search.specs.Offers.{Offer}
+use Rattle.search.proofs.Columns.{column-length, left-same, left-trans}
+use Rattle.search.proofs.Links.{consistent, distinct}
+use Rattle.search.proofs.Decode.{some-read}
+use Rattle.search.proofs.Follows.{chart-same, ready-kept}
+
+-- Where as many of the numbers below n have a property as there are, each has it.
+counts-all : {P : ℕ → Type 0} (n m : ℕ) → Counts P (below n) m → n ≤ m → (x : ℕ) → x < n → P x
+counts-all {P} zero m c h x l = absurd (omega arith)
+counts-all {P} (suc n) (suc m) (with p c) h x l = go (ℕ-discrete x n) (counts-all n m c (le-of-suc-le-suc h) x)
+  where
+    go : Dec (x ≡ n) → (x < n → P x) → P x
+    go (yes q) rest = rw q p
+    go (no k) rest = rest (omega arith)
+counts-all {P} (suc n) m (without p c) h x l = absurd (omega (arith, counts-at-most c, length-below n))
+
+module _ (𝓒 : Chart) (fair : Fair 𝓒) (𝓢 : Labels wholes) (ok : Sound (net 𝓒) (order 𝓒) 𝓢) where
+  -- The foremost label is shortest already, so it is bounded.
+  pub foremost-shortest : (u d : ℕ) → Foremost 𝓒 𝓢 u d → Shortest (net 𝓒) u d
+  foremost-shortest u d f = record {
+    chain = ok .labelled u d (f .waits .1);
+    best = λ e c.
+        ⊎-elim (λ r. absurd (true≢false (sym (r .0) ∙ f .waits .0)))
+        (λ y. shorter-of-first (order 𝓒) (no-later-trans (order 𝓒) (f .first (y .0) (y .1) (y .2)) (y .3)))
+        (follow (net 𝓒) (order 𝓒) (consistent 𝓒 fair) 𝓢 ok c);
+  }
+
+  -- So the foremost label leaves room for one link more.
+  pub near-of : Bounded 𝓒 → Near 𝓒 𝓢
+  near-of bounded = record { near = λ u d f. bounded u d (foremost-shortest u d f) }
+
+-- After m turns: W has come from W₀.
+pub record Running (C S E : List ℕ) (t : Trip) (W₀ : List ℕ) (budget : ℕ) (W : List ℕ) (m : ℕ) : Type 0 where
+  pub left : Left (t .k + 2) W₀ W
+  pub right : Right C t W
+  pub sound : Sound (net (chart C S E t W₀)) (order (chart C S E t W₀)) (labelsOf (t .k + 2) W)
+  pub none-after : NoneAfter (net (chart C S E t W₀)) (order (chart C S E t W₀)) (labelsOf (t .k + 2) W) (t .to)
+  pub counted : Counts (λ v. labelsOf (t .k + 2) W .settled v ≡ true) (below (t .k + 2)) m
+  pub within : m ≤ budget
+
+module _ {C S E : List ℕ} {t : Trip} {W₀ : List ℕ} (ready : Ready C S E t W₀) where
+  -- the chart at entry
+  abbrev 𝓒 : Chart
+  𝓒 = chart C S E t W₀
+
+  -- Once the start has its label, the search has begun.
+  pub running-first : {W : List ℕ} (budget : ℕ) → Blank (t .k + 2) W₀ → Offer C t W₀ (t .from) 1 W → Running C S E t W₀ budget W 0
+  running-first {W} budget blank o = record {
+    left = o .left;
+    right = o .right;
+    sound = first-sound (net 𝓒) (order 𝓒) (consistent 𝓒 (ready .fair)) (labelsOf (t .k + 2) W) first;
+    none-after = first-none-after (net 𝓒) (order 𝓒) (consistent 𝓒 (ready .fair)) (labelsOf (t .k + 2) W) (t .to) first;
+    counted = counts-none (λ x e. true≢false (sym e ∙ first .unsettled x)) _;
+    within = omega arith;
+  }
+    where
+      inside : t .from < length (columnOf (t .k + 2) W₀ Label)
+      inside = rw (column-length (t .k + 2) W₀ Label (omega arith) (ready .room)) (omega (arith, ready .fair .from))
+
+      label : columnOf (t .k + 2) W Label ≡ set (columnOf (t .k + 2) W₀ Label) (t .from) 1
+      label = rw (blank .label (t .from)) at (o .label)
+
+      at-from : getD (columnOf (t .k + 2) W Label) (t .from) 0 ≡ 1
+      at-from = rw label (getD-set-same (columnOf (t .k + 2) W₀ Label) (t .from) 1 0 inside)
+
+      only : (v d : ℕ) → getD (columnOf (t .k + 2) W Label) v 0 ≡ d + 1 → Dec (v ≡ t .from) → (v ≡ t .from) × (d ≡ 0)
+      only v d q (yes e) = (e, omega (arith, at-from, ap (λ (x : ℕ). getD (columnOf (t .k + 2) W Label) x 0) e))
+      only v d q (no n) =
+          let z : getD (columnOf (t .k + 2) W Label) v 0 ≡ 0 = rw label (getD-set-other (columnOf (t .k + 2) W₀ Label) (t .from) v 1 0 n) ∙ blank .label v in
+          absurd (omega arith)
+
+      first : Start (net 𝓒) (labelsOf (t .k + 2) W)
+      first = record {
+        at-start = rw at-from;
+        others = λ v d h. only v d (some-read (getD (columnOf (t .k + 2) W Label) v 0) d h) (ℕ-discrete v (t .from));
+        unsettled = λ v. rw (o .settled, blank .settled v);
+      }
+
+  module _ {budget : ℕ} {W : List ℕ} {m : ℕ} (run : Running C S E t W₀ budget W m) where
+    -- A run stays ready.
+    pub running-ready : Ready C S E t W
+    running-ready = ready-kept ready (run .left)
+
+    -- Between the turns the foremost label leaves room for one link more.
+    pub running-near : Bounded 𝓒 → Near (chart C S E t W) (labelsOf (t .k + 2) W)
+    running-near bounded = rw (chart-same C S E t (run .left)) (near-of 𝓒 (ready .fair) (labelsOf (t .k + 2) W) (run .sound) bounded)
+
+    -- One place more is settled.
+    pub running-step :
+        {W′ : List ℕ} {r : ℕ} → labelsOf (t .k + 2) W .settled (t .to) ≡ false → m < budget → 0 < r → Settling C S E t W r W′ →
+        Running C S E t W₀ budget W′ (m + 1)
+    running-step {W′} {r} open-goal h pos s = record {
+      left = left-trans (run .left) (s .left);
+      right = s .right;
+      sound = step-sound (net 𝓒) (order 𝓒) con (labelsOf (t .k + 2) W) (labelsOf (t .k + 2) W′) (run .sound) (r - 1) (move .0) (move .1);
+      none-after =
+          none-after-unsettled (net 𝓒) (order 𝓒) con (labelsOf (t .k + 2) W) (labelsOf (t .k + 2) W′) (run .sound) (r - 1) (move .0) (move .1) (t .to)
+          open-goal;
+      counted =
+          rw (add-one m)
+          (step-counts (net 𝓒) (order 𝓒) con (labelsOf (t .k + 2) W) (labelsOf (t .k + 2) W′) (run .sound) (r - 1) (move .0) (move .1) (t .k + 2)
+          (omega (arith, s .inside)) m (run .counted));
+      within = omega arith;
+    }
+      where
+        con : Consistent (order 𝓒) (net 𝓒)
+        con = consistent 𝓒 (ready .fair)
+
+        move : (d : ℕ) × Step (net 𝓒) (order 𝓒) (labelsOf (t .k + 2) W) (labelsOf (t .k + 2) W′) (r - 1) d
+        move = rw (chart-same C S E t (run .left)) at (s .some pos)
+
+    -- What a run comes to, if nobody waits where the goal is not settled and places are left to settle.
+    outcome :
+        (labelsOf (t .k + 2) W .settled (t .to) ≡ false → (m < budget) ⊎ (t .k + 2 ≤ budget) → (v e : ℕ) → WaitingAt (labelsOf (t .k + 2) W) v e → ⊥) →
+        Outcome 𝓒 (t .k + 2) (t .to) budget m (labelsOf (t .k + 2) W)
+    outcome none = record {
+      sound = run .sound;
+      counted = run .counted;
+      within = run .within;
+      shortest = λ v d s. settled-shortest (net 𝓒) (order 𝓒) con (labelsOf (t .k + 2) W) (run .sound) s;
+      none-before = λ u v d e s f c. none-before (net 𝓒) (order 𝓒) con (labelsOf (t .k + 2) W) (run .sound) s f c;
+      found = λ h.
+          let l = run .sound .has-label (t .to) h in (
+            l .0,
+            (h, l .1),
+            settled-shortest (net 𝓒) (order 𝓒) con (labelsOf (t .k + 2) W) (run .sound) (h, l .1),
+            effort-distinct (net 𝓒) (order 𝓒) con (labelsOf (t .k + 2) W) (run .sound) (t .k + 2) m (run .counted) (t .to) (l .0) (h, l .1) (run .none-after)
+                (distinct 𝓒 (ready .fair)),
+          );
+      reached = λ g at.
+          settled-in-reach (net 𝓒) (order 𝓒) con (labelsOf (t .k + 2) W) (run .sound) (t .k + 2) m (run .counted) (t .to) g at (run .none-after)
+          (none-tie (net 𝓒) (order 𝓒) con (labelsOf (t .k + 2) W) (run .sound) (t .k + 2) m (run .counted) (t .to) g at (run .none-after)
+          (distinct 𝓒 (ready .fair)));
+      lost = λ h b. (
+        λ r. true≢false (sym (settled-reachable (net 𝓒) (order 𝓒) con (labelsOf (t .k + 2) W) (run .sound) (none h b) (t .to) .1 r) ∙ h),
+        effort-without-goal (net 𝓒) (order 𝓒) con (labelsOf (t .k + 2) W) (run .sound) (t .k + 2) m (run .counted) (none h b),
+      );
+    }
+      where
+        con : Consistent (order 𝓒) (net 𝓒)
+        con = consistent 𝓒 (ready .fair)
+
+    -- The goal is settled.
+    pub run-found : labelsOf (t .k + 2) W .settled (t .to) ≡ true → Run C S E t W₀ budget m W
+    run-found h = record { outcome = outcome (λ f b v e w. absurd (true≢false (sym h ∙ f))); left = run .left }
+
+    -- Nobody waits.
+    pub run-lost : ((v e : ℕ) → WaitingAt (labelsOf (t .k + 2) W) v e → ⊥) → Run C S E t W₀ budget m W
+    run-lost none = record { outcome = outcome (λ f b. none); left = run .left }
+
+    -- The budget is used up: where it is enough for all places, all are settled.
+    pub run-used : budget ≤ m → Run C S E t W₀ budget m W
+    run-used h = record {
+      outcome = outcome
+          (λ f b v e w.
+          ⊎-elim (λ l. omega arith)
+          (λ l. true≢false (sym (counts-all (t .k + 2) m (run .counted) (omega arith) (t .to) (ready .fair .to)) ∙ f)) b);
+      left = run .left;
+    }
+
+-- The loop begins after the start has its label: what holds of the work space then holds of the one at entry.
+module _ {C S E : List ℕ} {t : Trip} {W₀ W₁ : List ℕ} (begun : Left (t .k + 2) W₀ W₁) where
+  -- The invariant over the work space with which the loop begins.
+  pub running-begun : {budget m : ℕ} → Running C S E t W₀ budget W₁ m → Running C S E t W₁ budget W₁ m
+  running-begun r = record {
+    left = left-same _ _;
+    right = r .right;
+    sound = rw (chart-same C S E t begun) (r .sound);
+    none-after = rw (chart-same C S E t begun) (r .none-after);
+    counted = r .counted;
+    within = r .within;
+  }
+
+  -- What a run from there comes to.
+  pub run-begun : {budget m : ℕ} {W : List ℕ} → Run C S E t W₁ budget m W → Run C S E t W₀ budget m W
+  run-begun r = record { outcome = rw (chart-same C S E t begun) at (r .outcome); left = left-trans begun (r .left) }
+
+-- Chains stay bounded.
+pub bounded-begun :
+    (C S E : List ℕ) (t : Trip) {W₀ W₁ : List ℕ} → Left (t .k + 2) W₀ W₁ → Bounded (chart C S E t W₀) → Bounded (chart C S E t W₁)
+bounded-begun C S E t begun b = rw (chart-same C S E t begun) b

@@ -1,0 +1,6 @@
+pub mod Columns
+pub mod Places
+pub mod Chart
+pub mod Tree
+pub mod Search
+pub mod Offers

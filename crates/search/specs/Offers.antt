@@ -1,0 +1,59 @@
+-- What the parts of a step do to the work space.
+-- Assumes nothing.
+use mathlib.Core.Path.{_≡_}
+use mathlib.Core.Logic.{_⊎_}
+use mathlib.Core.Bool.{cond}
+use mathlib.Core.List.{List}
+use Prim.Native.Nat.{ℕ, _+_, _-_, _≤_, _<_, min}
+use lib.Dec.{ltb}
+use lib.ListN.{getD, set}
+use Rattle.settling.specs.Labels.{WaitingAt}
+use Rattle.search.specs.declared.Trip.{Trip}
+use Rattle.search.specs.Columns.{columnOf, Label, Settled, Left}
+use Rattle.search.specs.Chart.{Chart, chart, linkAt, net}
+use Rattle.search.specs.Tree.{Right}
+use Rattle.search.specs.Search.{labelsOf, Foremost}
+
+-- The entry after an offer: the less of the two, where there was one.
+abbrev pub lowered : ℕ → ℕ → ℕ
+lowered old new = cond (ltb 0 old) (min old new) new
+
+-- Place v has been offered the entry `new`, and the tree is right.
+pub record Offer (C : List ℕ) (t : Trip) (W : List ℕ) (v new : ℕ) (W′ : List ℕ) : Type 0 where
+  pub label : columnOf (t .k + 2) W′ Label ≡ set (columnOf (t .k + 2) W Label) v (lowered (getD (columnOf (t .k + 2) W Label) v 0) new)
+  pub settled : columnOf (t .k + 2) W′ Settled ≡ columnOf (t .k + 2) W Settled
+  pub left : Left (t .k + 2) W W′
+  pub right : Right C t W′
+
+-- Between D and D′ the place u, whose entry is d, has offered a way along its links below the k-th: an entry changes only to an offer, is
+-- never lost and never grows, and is at most each offer.
+pub record Offered (𝓒 : Chart) (u d k : ℕ) (D D′ : List ℕ) : Type 0 where
+  pub from : (v : ℕ) → (getD D′ v 0 ≡ getD D v 0) ⊎ ((j : ℕ) × (j < k) × (linkAt 𝓒 u j ≡ v + 1) × (getD D′ v 0 ≡ d + net 𝓒 .weight u v))
+  pub kept : (v : ℕ) → 0 < getD D v 0 → (0 < getD D′ v 0) × (getD D′ v 0 ≤ getD D v 0)
+  pub offered : (j v : ℕ) → j < k → linkAt 𝓒 u j ≡ v + 1 → (0 < getD D′ v 0) × (getD D′ v 0 ≤ d + net 𝓒 .weight u v)
+
+-- Link j of u has been followed: the place that it leads to, if it leads to one, has been offered d and the link's length.
+pub record Follow (C S E : List ℕ) (t : Trip) (W : List ℕ) (u d j : ℕ) (W′ : List ℕ) : Type 0 where
+  pub some : (v : ℕ) → linkAt (chart C S E t W) u j ≡ v + 1 → Offer C t W v (d + net (chart C S E t W) .weight u v) W′
+  pub none : linkAt (chart C S E t W) u j ≡ 0 → W′ ≡ W
+  pub inside : linkAt (chart C S E t W) u j ≤ t .k + 2
+
+-- The links of u below the k-th have been followed.
+pub record Followed (C S E : List ℕ) (t : Trip) (W : List ℕ) (u d k : ℕ) (W′ : List ℕ) : Type 0 where
+  pub offered : Offered (chart C S E t W) u d k (columnOf (t .k + 2) W Label) (columnOf (t .k + 2) W′ Label)
+  pub settled : columnOf (t .k + 2) W′ Settled ≡ columnOf (t .k + 2) W Settled
+  pub left : Left (t .k + 2) W W′
+  pub right : Right C t W′
+
+-- Place u is settled, and the tree is right.
+pub record Marked (C : List ℕ) (t : Trip) (W : List ℕ) (u : ℕ) (W′ : List ℕ) : Type 0 where
+  pub label : columnOf (t .k + 2) W′ Label ≡ columnOf (t .k + 2) W Label
+  pub settled : columnOf (t .k + 2) W′ Settled ≡ set (columnOf (t .k + 2) W Settled) u 1
+  pub left : Left (t .k + 2) W W′
+  pub right : Right C t W′
+
+-- r is one more than the place that waits foremost, or 0 where none waits.
+pub record First (𝓒 : Chart) (W : List ℕ) (r : ℕ) : Type 0 where
+  pub inside : r ≤ 𝓒 .trip .k + 2
+  pub none : r ≡ 0 → (v e : ℕ) → WaitingAt (labelsOf (𝓒 .trip .k + 2) W) v e → ⊥
+  pub some : 0 < r → Foremost 𝓒 (labelsOf (𝓒 .trip .k + 2) W) (r - 1) (getD (columnOf (𝓒 .trip .k + 2) W Label) (r - 1) 0 - 1)

@@ -1,0 +1,509 @@
+// The search over places, nearest first, of equally near ones the smaller cell number first. Places are the corners by
+// their index, then the start (k) and the goal (k + 1), unless they are corners themselves. All state is in a work
+// space that the caller lends: six columns of k + 2 entries, where 0 means nothing, so that zeros are an empty search.
+ghost use mathlib.Core.Path.{_≡_};
+ghost use Prim.Native.Nat.{ℕ, _+_, _*_, _<_, _≤_};
+ghost use mathlib.Core.List.{List};
+ghost use lib.ListN.{length, getD};
+ghost use Rattle.lengths.specs.Lengths.{gap as gapOf, octileOf};
+ghost use Rattle.lengths.specs.Laws.{weight};
+ghost use Rattle.search.specs.Columns.{columnOf, Label, Tree, Settled, Inside, Put};
+ghost use Rattle.search.specs.Places.{indexOf, Ascending, Bound, cellOf, apart, TwoCells};
+ghost use Rattle.search.specs.Chart.{chart, flagged as flaggedOf, Rows, arcsOf, countOf, cornerLink, linkAt, linkCount};
+ghost use Rattle.search.specs.Tree.{waitsAt, leafOf, nodeOf, Better, ranks, Room, Right, NearlyRight, Playable, Played, Raised};
+ghost use Rattle.search.specs.Search.{labelsOf, Ready, limit, Near, Settling, Blank, Bounded, Run};
+ghost use Rattle.search.specs.Offers.{lowered as loweredOf, Offer, Follow, Followed, Marked, First};
+
+// The least length known of a place, plus one; 0 for none.
+pub const LABEL: usize = 0;
+// The winner tree: one more than a place; 0 for nobody.
+pub const TREE: usize = 1;
+// 1 for a settled place, else 0.
+pub const SETTLED: usize = 2;
+// 1 for a corner that is linked to the start, which is no corner; else 0. The same for the goal.
+pub const BY_START: usize = 3;
+
+pub const BY_GOAL: usize = 4;
+// The caller's: the search leaves it alone.
+pub const NEXT: usize = 5;
+
+// What a search is about: the floor's width, how many corners there are, start and goal by cell number, and the
+// places that stand for them.
+pub struct Trip {
+    pub w: usize,
+    pub k: usize,
+    pub start: usize,
+    pub goal: usize,
+    pub from: usize,
+    pub to: usize,
+}
+
+// A number of 16 bits, and one of 32, as an index.
+fn wide(x: u16) -> usize
+    ensures same { λ r. ⌜ r ≡ x ⌝ }
+    ensures bounded { λ r. ⌜ r < 65536 ⌝ }
+{
+    x as usize
+}
+
+fn size(x: u32) -> usize
+    ensures { λ r. ⌜ r ≡ x ⌝ }
+{
+    x as usize
+}
+
+// ---- the work space
+
+// Entry i of a column of n entries. Columns are numbers, since two parts of one slice cannot be lent at once.
+pub fn get(work: &[u32], n: usize, column: usize, i: usize) -> u32
+    requires { ⌜ Inside n (now work) column i ⌝ }
+    ensures { λ r. ⌜ r ≡ getD (columnOf n (now (work .entry)) column) i 0 ⌝ }
+{
+    work[column * n + i]
+}
+
+// Sets entry i of a column.
+pub fn put(work: &mut [u32], n: usize, column: usize, i: usize, value: u32)
+    requires { ⌜ Inside n (now work) column i ⌝ }
+    ensures { λ r. ⌜ Put n (now (work .entry)) column i value (now (work .exit)) ⌝ }
+{
+    work[column * n + i] = value;
+}
+
+// ---- cells
+
+// The cell of place i.
+pub fn cell_of(corners: &[u16], t: Trip, i: usize) -> usize
+    requires { ⌜ length (now corners) ≡ t .k ⌝ }
+    ensures { λ r. ⌜ r ≡ cellOf (now (corners .entry)) t i ⌝ }
+{
+    if i < t.k {
+        return wide(corners[i]);
+    }
+    if i == t.k {
+        return t.start;
+    }
+    t.goal
+}
+
+// The offset of two coordinates, without sign.
+fn gap(a: usize, b: usize) -> usize
+    ensures { λ r. ⌜ r ≡ gapOf a b ⌝ }
+{
+    if a < b {
+        return b - a;
+    }
+    a - b
+}
+
+// The octile distance for two offsets as one whole number.
+fn weigh(dx: usize, dy: usize) -> u32
+    requires { ⌜ (dx ≤ 254) × (dy ≤ 254) ⌝ }
+    ensures weight { λ r. ⌜ r ≡ weight (octileOf dx dy) ⌝ }
+    ensures bounded { λ r. ⌜ r ≤ 29017722 ⌝ }
+{
+    if dx < dy {
+        return (80782 * (dy - dx) + 114243 * dx) as u32;
+    }
+    (80782 * (dx - dy) + 114243 * dy) as u32
+}
+
+// How far two cells are apart.
+pub fn leg(w: usize, a: usize, b: usize) -> u32
+    requires { ⌜ TwoCells w a b ⌝ }
+    ensures apart { λ r. ⌜ r ≡ apart w a b ⌝ }
+    ensures bounded { λ r. ⌜ r ≤ 29017722 ⌝ }
+{
+    let dx = gap(a % w, b % w);
+    let dy = gap(a / w, b / w);
+    weigh(dx, dy)
+}
+
+// The index of the first cell that is not less than `cell`.
+fn lower_bound(cells: &[u16], cell: usize) -> usize
+    requires { ⌜ Ascending (now cells) ⌝ }
+    ensures { λ r. ⌜ Bound (now (cells .entry)) cell r ⌝ }
+{
+    let mut lo: usize = 0;
+    let mut hi = cells.len();
+    while lo < hi {
+        let mid = lo + (hi - lo) / 2;
+        let c = wide(cells[mid]);
+        if c < cell {
+            lo = mid + 1;
+        } else {
+            hi = mid;
+        }
+    }
+    lo
+}
+
+// The index of a cell in an ascending list of cells, or the list's length where it is not there.
+pub fn find(cells: &[u16], cell: usize) -> usize
+    requires { ⌜ Ascending (now cells) ⌝ }
+    ensures { λ r. ⌜ r ≡ indexOf (now (cells .entry)) cell ⌝ }
+{
+    let at = lower_bound(cells, cell);
+    if cells.len() <= at {
+        return cells.len();
+    }
+    let c = wide(cells[at]);
+    if c == cell {
+        return at;
+    }
+    cells.len()
+}
+
+// ---- links
+
+// How many neighbours corner u has.
+fn arc_count(starts: &[u16], u: usize) -> usize
+    requires inside { ⌜ u + 1 < length (now starts) ⌝ }
+    requires rising { ⌜ getD (now starts) u 0 ≤ getD (now starts) (u + 1) 0 ⌝ }
+    ensures arcs { λ r. ⌜ r ≡ arcsOf (now (starts .entry)) u ⌝ }
+    ensures bounded { λ r. ⌜ r < 65536 ⌝ }
+{
+    let first = wide(starts[u]);
+    let last = wide(starts[u + 1]);
+    last - first
+}
+
+// One more than the place where the flag of corner i in the column is set, else 0.
+fn flagged(work: &[u32], n: usize, column: usize, i: usize, place: usize) -> usize
+    requires inside { ⌜ Inside n (now work) column i ⌝ }
+    requires small { ⌜ place ≤ 65536 ⌝ }
+    ensures { λ r. ⌜ r ≡ flaggedOf (columnOf n (now (work .entry)) column) i place ⌝ }
+{
+    let f = get(work, n, column, i);
+    if 0 < f {
+        return place + 1;
+    }
+    0
+}
+
+// How many links of place u there are to look at: a corner has its neighbours, the start and the goal; start and goal
+// have each corner.
+pub fn link_count(starts: &[u16], k: usize, u: usize) -> usize
+    requires { ⌜ Rows (now starts) k ⌝ }
+    ensures { λ r. ⌜ r ≡ countOf (now (starts .entry)) k u ⌝ }
+{
+    if u < k {
+        return arc_count(starts, u) + 2;
+    }
+    k
+}
+
+// Link j of corner u: a neighbour, or the start, or the goal.
+fn corner_link(
+    corners: &[u16],
+    starts: &[u16],
+    neighbours: &[u16],
+    t: Trip,
+    work: &[u32],
+    u: usize,
+    j: usize,
+) -> usize
+    requires ready { ⌜ Ready (now corners) (now starts) (now neighbours) t (now work) ⌝ }
+    requires corner { ⌜ u < t .k ⌝ }
+    ensures { λ r. ⌜ r ≡ cornerLink (chart (now (corners .entry)) (now (starts .entry)) (now (neighbours .entry)) t (now (work .entry))) u j ⌝ }
+{
+    let count = arc_count(starts, u);
+    if j < count {
+        let at = wide(starts[u]) + j;
+        let c = wide(neighbours[at]);
+        return find(corners, c) + 1;
+    }
+    if j == count {
+        return flagged(work, t.k + 2, BY_START, u, t.k);
+    }
+    flagged(work, t.k + 2, BY_GOAL, u, t.k + 1)
+}
+
+// Link j of place u: one more than the place that it leads to, or 0 for none.
+pub fn link_at(
+    corners: &[u16],
+    starts: &[u16],
+    neighbours: &[u16],
+    t: Trip,
+    work: &[u32],
+    u: usize,
+    j: usize,
+) -> usize
+    requires ready { ⌜ Ready (now corners) (now starts) (now neighbours) t (now work) ⌝ }
+    requires there { ⌜ j < linkCount (chart (now corners) (now starts) (now neighbours) t (now work)) u ⌝ }
+    ensures { λ r. ⌜ r ≡ linkAt (chart (now (corners .entry)) (now (starts .entry)) (now (neighbours .entry)) t (now (work .entry))) u j ⌝ }
+{
+    if u < t.k {
+        return corner_link(corners, starts, neighbours, t, work, u, j);
+    }
+    if u == t.k {
+        return flagged(work, t.k + 2, BY_START, j, j);
+    }
+    flagged(work, t.k + 2, BY_GOAL, j, j)
+}
+
+// ---- the winner tree
+
+// Whether place i waits: it has a label and is not settled.
+fn waits(work: &[u32], n: usize, i: usize) -> bool
+    requires { ⌜ (i < n) × (6 * n ≤ length (now work)) ⌝ }
+    ensures { λ r. ⌜ r ≡ waitsAt (columnOf n (now (work .entry)) Label) (columnOf n (now (work .entry)) Settled) i ⌝ }
+{
+    let settled = get(work, n, SETTLED, i);
+    if 0 < settled {
+        return false;
+    }
+    let label = get(work, n, LABEL, i);
+    0 < label
+}
+
+// What node i holds: below n what is stored, from n on the place itself.
+fn node(work: &[u32], n: usize, i: usize) -> u32
+    requires { ⌜ (i < n + n) × (n ≤ 2050) × (6 * n ≤ length (now work)) ⌝ }
+    ensures { λ r. ⌜ r ≡ nodeOf (leafOf (columnOf n (now (work .entry)) Label) (columnOf n (now (work .entry)) Settled)) n (columnOf n (now (work .entry)) Tree) i ⌝ }
+{
+    if i < n {
+        return get(work, n, TREE, i);
+    }
+    let p = i - n;
+    if waits(work, n, p) {
+        return p as u32 + 1;
+    }
+    0
+}
+
+// The one of two labelled places, each plus one, that comes first: by label, then by cell number.
+fn sooner(corners: &[u16], t: Trip, work: &[u32], a: u32, b: u32) -> u32
+    requires room { ⌜ Room (now corners) t (now work) ⌝ }
+    requires left { ⌜ (0 < a) × (a ≤ t .k + 2) ⌝ }
+    requires right { ⌜ (0 < b) × (b ≤ t .k + 2) ⌝ }
+    ensures { λ r. ⌜ Better (ranks (now (corners .entry)) t (now (work .entry))) a b r ⌝ }
+{
+    let i = size(a) - 1;
+    let j = size(b) - 1;
+    let x = get(work, t.k + 2, LABEL, i);
+    let y = get(work, t.k + 2, LABEL, j);
+    if x < y {
+        return a;
+    }
+    if y < x {
+        return b;
+    }
+    let p = cell_of(corners, t, i);
+    let q = cell_of(corners, t, j);
+    if p < q {
+        return a;
+    }
+    b
+}
+
+// The better of what two nodes hold.
+fn better(corners: &[u16], t: Trip, work: &[u32], a: u32, b: u32) -> u32
+    requires room { ⌜ Room (now corners) t (now work) ⌝ }
+    requires left { ⌜ a ≤ t .k + 2 ⌝ }
+    requires right { ⌜ b ≤ t .k + 2 ⌝ }
+    ensures { λ r. ⌜ Better (ranks (now (corners .entry)) t (now (work .entry))) a b r ⌝ }
+{
+    if a == 0 {
+        return b;
+    }
+    if b == 0 {
+        return a;
+    }
+    sooner(corners, t, work, a, b)
+}
+
+// Puts node i right.
+fn renew(corners: &[u16], t: Trip, work: &mut [u32], i: usize)
+    requires { ⌜ Playable (now corners) t (now work) i ⌝ }
+    ensures { λ r. ⌜ Played (now (corners .entry)) t (now (work .entry)) i (now (work .exit)) ⌝ }
+{
+    let n = t.k + 2;
+    let a = node(work, n, 2 * i);
+    let b = node(work, n, 2 * i + 1);
+    let best = better(corners, t, work, a, b);
+    put(work, n, TREE, i, best);
+}
+
+// Puts the tree right after place p alone has changed: each node above it, from below to the top.
+fn raise(corners: &[u16], t: Trip, work: &mut [u32], p: usize)
+    requires room { ⌜ Room (now corners) t (now work) ⌝ }
+    requires inside { ⌜ p < t .k + 2 ⌝ }
+    requires nearly { ⌜ NearlyRight (now corners) t (now work) (t .k + 2 + p) ⌝ }
+    ensures { λ r. ⌜ Raised (now (corners .entry)) t (now (work .entry)) (now (work .exit)) ⌝ }
+{
+    let mut i = t.k + 2 + p;
+    while 1 < i {
+        i = i / 2;
+        renew(corners, t, work, i);
+    }
+}
+
+// ---- the search
+
+// The entry after an offer: the less of the two, where there was one.
+fn lowered(old: u32, new: u32) -> u32
+    ensures { λ r. ⌜ r ≡ loweredOf old new ⌝ }
+{
+    if old == 0 {
+        return new;
+    }
+    if new < old {
+        return new;
+    }
+    old
+}
+
+// Place v may be reached at a length that is one less than `new`.
+fn offer(corners: &[u16], t: Trip, work: &mut [u32], v: usize, new: u32)
+    requires room { ⌜ Room (now corners) t (now work) ⌝ }
+    requires right { ⌜ Right (now corners) t (now work) ⌝ }
+    requires inside { ⌜ v < t .k + 2 ⌝ }
+    ensures { λ r. ⌜ Offer (now (corners .entry)) t (now (work .entry)) v new (now (work .exit)) ⌝ }
+{
+    let n = t.k + 2;
+    let old = get(work, n, LABEL, v);
+    let best = lowered(old, new);
+    if best != old {
+        put(work, n, LABEL, v, best);
+        raise(corners, t, work, v);
+    }
+}
+
+// Offers the place that link j of u leads to, if it leads to one, the way by u, whose entry is d.
+fn follow(
+    corners: &[u16],
+    starts: &[u16],
+    neighbours: &[u16],
+    t: Trip,
+    work: &mut [u32],
+    u: usize,
+    d: u32,
+    j: usize,
+)
+    requires ready { ⌜ Ready (now corners) (now starts) (now neighbours) t (now work) ⌝ }
+    requires right { ⌜ Right (now corners) t (now work) ⌝ }
+    requires inside { ⌜ u < t .k + 2 ⌝ }
+    requires there { ⌜ j < linkCount (chart (now corners) (now starts) (now neighbours) t (now work)) u ⌝ }
+    requires short { ⌜ d ≤ limit + 1 ⌝ }
+    ensures { λ r. ⌜ Follow (now (corners .entry)) (now (starts .entry)) (now (neighbours .entry)) t (now (work .entry)) u d j (now (work .exit)) ⌝ }
+{
+    let to = link_at(corners, starts, neighbours, t, work, u, j);
+    if to != 0 {
+        let v = to - 1;
+        let a = cell_of(corners, t, u);
+        let b = cell_of(corners, t, v);
+        let far = leg(t.w, a, b);
+        offer(corners, t, work, v, d + far);
+    }
+}
+
+// Follows each link of u.
+fn follow_all(
+    corners: &[u16],
+    starts: &[u16],
+    neighbours: &[u16],
+    t: Trip,
+    work: &mut [u32],
+    u: usize,
+    d: u32,
+)
+    requires ready { ⌜ Ready (now corners) (now starts) (now neighbours) t (now work) ⌝ }
+    requires right { ⌜ Right (now corners) t (now work) ⌝ }
+    requires inside { ⌜ u < t .k + 2 ⌝ }
+    requires short { ⌜ (0 < d) × (d ≤ limit + 1) ⌝ }
+    ensures { λ r. ⌜ Followed (now (corners .entry)) (now (starts .entry)) (now (neighbours .entry)) t (now (work .entry)) u d (linkCount (chart (now (corners .entry)) (now (starts .entry)) (now (neighbours .entry)) t (now (work .entry))) u) (now (work .exit)) ⌝ }
+{
+    let count = link_count(starts, t.k, u);
+    let mut j: usize = 0;
+    while j < count {
+        follow(corners, starts, neighbours, t, work, u, d, j);
+        j += 1;
+    }
+}
+
+// One more than the place that waits foremost, or 0 where none waits: it stands at the top of the tree, whatever the
+// chart that the tree is right for.
+fn next(t: Trip, work: &[u32]) -> usize
+    requires { ⌜ (t .k ≤ 2048) × (6 * (t .k + 2) ≤ length (now work)) ⌝ }
+    ensures { λ r. ⌜ ((C S E : List ℕ) → Right C t (now (work .entry)) → First (chart C S E t (now (work .entry))) (now (work .entry)) r) ⌝ }
+{
+    let top = get(work, t.k + 2, TREE, 1);
+    size(top)
+}
+
+// Marks u as settled: it waits no longer, so the tree is put right.
+fn mark(corners: &[u16], t: Trip, work: &mut [u32], u: usize)
+    requires room { ⌜ Room (now corners) t (now work) ⌝ }
+    requires right { ⌜ Right (now corners) t (now work) ⌝ }
+    requires inside { ⌜ u < t .k + 2 ⌝ }
+    ensures { λ r. ⌜ Marked (now (corners .entry)) t (now (work .entry)) u (now (work .exit)) ⌝ }
+{
+    put(work, t.k + 2, SETTLED, u, 1);
+    raise(corners, t, work, u);
+}
+
+// Settles the place that waits foremost and says one more than it, or 0 where none waits.
+pub fn settle(
+    corners: &[u16],
+    starts: &[u16],
+    neighbours: &[u16],
+    t: Trip,
+    work: &mut [u32],
+) -> usize
+    requires ready { ⌜ Ready (now corners) (now starts) (now neighbours) t (now work) ⌝ }
+    requires right { ⌜ Right (now corners) t (now work) ⌝ }
+    requires near { ⌜ Near (chart (now corners) (now starts) (now neighbours) t (now work)) (labelsOf (t .k + 2) (now work)) ⌝ }
+    ensures { λ r. ⌜ Settling (now (corners .entry)) (now (starts .entry)) (now (neighbours .entry)) t (now (work .entry)) r (now (work .exit)) ⌝ }
+{
+    let first = next(t, work);
+    if first == 0 {
+        return 0;
+    }
+    let u = first - 1;
+    let d = get(work, t.k + 2, LABEL, u);
+    mark(corners, t, work, u);
+    follow_all(corners, starts, neighbours, t, work, u, d);
+    first
+}
+
+// The start is reached at the length 0.
+pub fn begin(corners: &[u16], t: Trip, work: &mut [u32])
+    requires room { ⌜ Room (now corners) t (now work) ⌝ }
+    requires blank { ⌜ Blank (t .k + 2) (now work) ⌝ }
+    requires from { ⌜ t .from < t .k + 2 ⌝ }
+    ensures { λ r. ⌜ Offer (now (corners .entry)) t (now (work .entry)) (t .from) 1 (now (work .exit)) ⌝ }
+{
+    offer(corners, t, work, t.from, 1);
+}
+
+// Settles places from the start on, until the goal is settled, none waits or `budget` of them are settled, and says how
+// many were.
+pub fn run(
+    corners: &[u16],
+    starts: &[u16],
+    neighbours: &[u16],
+    t: Trip,
+    work: &mut [u32],
+    budget: usize,
+) -> usize
+    requires ready { ⌜ Ready (now corners) (now starts) (now neighbours) t (now work) ⌝ }
+    requires blank { ⌜ Blank (t .k + 2) (now work) ⌝ }
+    requires bounded { ⌜ Bounded (chart (now corners) (now starts) (now neighbours) t (now work)) ⌝ }
+    ensures { λ r. ⌜ Run (now (corners .entry)) (now (starts .entry)) (now (neighbours .entry)) t (now (work .entry)) budget r (now (work .exit)) ⌝ }
+{
+    begin(corners, t, work);
+    let mut effort: usize = 0;
+    while effort < budget {
+        let done = get(work, t.k + 2, SETTLED, t.to);
+        if 0 < done {
+            return effort;
+        }
+        let last = settle(corners, starts, neighbours, t, work);
+        if last == 0 {
+            return effort;
+        }
+        effort += 1;
+    }
+    effort
+}
