@@ -1,0 +1,172 @@
+-- A query decided: refused, or answered by the direct line or by the search. Assumes nothing.
+use Prim.Native.Nat.{ℕ, _+_, _*_, _<_, _≤_}
+use mathlib.Core.List.{List, [], _∷_, _++_}
+use mathlib.Core.Logic.{_⊎_, inl, inr, ⊎-elim, _≢_}
+use mathlib.Core.Path.{_≡_, refl, sym, _∙_, ap, subst}
+use native.Mathlib.Omega.{arith}
+use lib.ListN.{length, drop, replicate, length-replicate}
+use Rattle.floor.specs.Board.{Place, at, Free}
+use Rattle.floor.specs.Refusals.{Refusal, refuse, FirstOf}
+use Rattle.floor.specs.Words.{rowWords, UnusedClear, board, placeOf}
+use Rattle.ground.specs.Kind.{walkers}
+use Rattle.ground.specs.Walk.{Legal}
+use Rattle.ground.specs.Line.{line}
+use Rattle.plan.specs.Lists.{written}
+use Rattle.plan.proofs.Cells.{place-of-number, number-in}
+use Rattle.query.specs.Cells.{Cell}
+use Rattle.query.specs.Route.{LineClear}
+use Rattle.query.specs.Query.{Asked, Fits, startCell, goalCell, workSize, queryRows, QueryOutcome}
+use Rattle.query.specs.Steps.{Judged, planRows, endRows, lateRows, Ready, LateOutcome}
+use Rattle.query.specs.Answers.{LineAnswer, Searchable, SearchAnswer, Beyond, Refused}
+use Rattle.query.specs.declared.Answer.{Answer}
+use Rattle.query.proofs.Early.{plan-refuses, ends-refuse, late-decides}
+use Rattle.query.proofs.Late.{late-line, late-lost, late-search}
+use Rattle.query.proofs.Runs.{cell-in}
+use Rattle.query.proofs.Stay.{start-is-goal}
+
+-- ---- the work space
+-- what is the same beyond the first entries is the same once these are 0
+pub cleared-again : (n : ℕ) (W W′ : List ℕ) → Beyond n W W′ → written (replicate n 0) W′ ≡ written (replicate n 0) W
+cleared-again n W W′ b =
+    ap (λ (m : ℕ). replicate n 0 ++ drop m W′) (length-replicate n 0)
+    ∙ ap (λ (ys : List ℕ). replicate n 0 ++ ys) (b .rest)
+    ∙ sym (ap (λ (m : ℕ). replicate n 0 ++ drop m W) (length-replicate n 0))
+
+-- ---- a question that is ready
+module _ (a : Asked) (q : Ready a) where
+  start-place : placeOf (a .w) (startCell a) ≡ at (a .sx) (a .sy)
+  start-place = place-of-number (a .w) (a .sx) (a .sy) (q .start-column)
+
+  goal-place : placeOf (a .w) (goalCell a) ≡ at (a .gx) (a .gy)
+  goal-place = place-of-number (a .w) (a .gx) (a .gy) (q .goal-column)
+
+  pub start-cell : Cell (a .w) (a .sx) (a .sy)
+  start-cell = cell-in (a .w) (a .h) (a .sx) (a .sy) (q .floor .few-cells) (q .start-column) (q .start-row)
+
+  pub goal-cell : Cell (a .w) (a .gx) (a .gy)
+  goal-cell = cell-in (a .w) (a .h) (a .gx) (a .gy) (q .floor .few-cells) (q .goal-column) (q .goal-row)
+
+  pub small-ends : (a .sx ≤ 255) × (a .sy ≤ 255) × (a .gx ≤ 255) × (a .gy ≤ 255)
+  small-ends =
+      let x = q .floor .sized .wide in
+      let y = q .floor .sized .high in
+      let i = q .start-column in
+      let j = q .start-row in
+      let k = q .goal-column in
+      let l = q .goal-row in
+      (omega arith, omega arith, omega arith, omega arith)
+
+  -- the direct line between two places is legal
+  abbrev Clear : Place → Place → Type 0
+  Clear s t = Legal walkers (board (a .w) (a .h) (a .words)) s (line s t)
+
+  line-clear : Clear (at (a .sx) (a .sy)) (at (a .gx) (a .gy)) → LineClear (a .w) (a .h) (a .words) (startCell a) (goalCell a)
+  line-clear l =
+      subst (λ (s : Place). Clear s (placeOf (a .w) (goalCell a))) (sym start-place)
+      (subst (λ (t : Place). Clear (at (a .sx) (a .sy)) t) (sym goal-place) l)
+
+  line-barred : ¬ (Clear (at (a .sx) (a .sy)) (at (a .gx) (a .gy))) → ¬ (LineClear (a .w) (a .h) (a .words) (startCell a) (goalCell a))
+  line-barred n l =
+      n (subst (λ (t : Place). Clear (at (a .sx) (a .sy)) t) goal-place (subst (λ (s : Place). Clear s (placeOf (a .w) (goalCell a))) start-place l))
+
+  -- by the direct line
+  pub by-line : (r : Answer) (route₁ work₁ : List ℕ) → Clear (at (a .sx) (a .sy)) (at (a .gx) (a .gy)) →
+      LineAnswer (a .w) (startCell a) (at (a .sx) (a .sy)) (at (a .gx) (a .gy)) r (a .route) route₁ →
+      work₁ ≡ written (replicate (workSize a) 0) (a .work) → LateOutcome a r route₁ work₁
+  by-line r route₁ work₁ clear l cleared =
+      late-line a r route₁ work₁ (line-clear clear)
+      (subst (λ (s : Place). LineAnswer (a .w) (startCell a) s (placeOf (a .w) (goalCell a)) r (a .route) route₁) (sym start-place)
+      (subst (λ (t : Place). LineAnswer (a .w) (startCell a) (at (a .sx) (a .sy)) t r (a .route) route₁) (sym goal-place) l))
+      cleared
+
+  -- by the search
+  module _ (n : ¬ (Clear (at (a .sx) (a .sy)) (at (a .gx) (a .gy)))) where
+    start-open : Free (board (a .w) (a .h) (a .words)) (placeOf (a .w) (startCell a))
+    start-open = subst (Free (board (a .w) (a .h) (a .words))) (sym start-place) (q .start-free)
+
+    pub searchable : Searchable (a .w) (a .h) (a .words) (a .plan) (startCell a) (goalCell a) (a .work)
+    searchable =
+        record {
+          floor = q .floor;
+          fits = q .fits;
+          start-inside = number-in (a .w) (a .h) (a .sx) (a .sy) (q .start-column) (q .start-row);
+          goal-inside = number-in (a .w) (a .h) (a .gx) (a .gy) (q .goal-column) (q .goal-row);
+          start-free = start-open;
+          goal-free = subst (Free (board (a .w) (a .h) (a .words))) (sym goal-place) (q .goal-free);
+          differ =
+              λ e.
+              line-barred n
+              (subst (LineClear (a .w) (a .h) (a .words) (startCell a)) e (start-is-goal (a .w) (a .h) (a .words) (startCell a) start-open));
+          barred = line-barred n;
+          room = q .room;
+        }
+
+    pub by-search : (r : Answer) (route₁ work₁ work₂ : List ℕ) →
+        SearchAnswer (a .w) (a .h) (a .words) (a .plan) (startCell a) (goalCell a) r (a .route) route₁ → Beyond (workSize a) (a .work) work₁ →
+        work₂ ≡ written (replicate (workSize a) 0) work₁ → LateOutcome a r route₁ work₂
+    by-search r route₁ work₁ work₂ s b e =
+        let cleared = e ∙ cleared-again (workSize a) (a .work) work₁ b in
+        ⊎-elim (λ f. late-search a r route₁ work₂ (line-barred n) f cleared) (λ l. late-lost a r route₁ work₂ l cleared) s
+
+-- ---- the outcome
+module _ (a : Asked) where
+  abbrev ends : List Refusal
+  ends = endRows (a .w) (a .h) (a .words) (a .sx) (a .sy) (a .gx) (a .gy) (length (a .plan .corners)) (length (a .work))
+
+  -- the numbers of the rows
+  plan-below : (c : ℕ) → FirstOf (planRows (a .w) (a .h) (a .words) (a .plan)) c → c < 12
+  plan-below c f = ⊎-elim (λ p. let e = p .1 in omega arith) (λ p. second (p .1)) f
+    where
+      fourth : FirstOf (refuse 8 (¬ (Fits (a .w) (a .h) (a .words) (a .plan))) ∷ []) c → c < 12
+      fourth (inl p) = let e = p .1 in omega arith
+      fourth (inr p) = let e = p .1 in omega arith
+
+      second : FirstOf (refuse 2 (length (a .words) ≢ a .h * rowWords (a .w)) ∷ refuse 3 (UnusedClear (a .w) (a .h) (a .words)) ∷ refuse 8 (¬ (Fits (a .w) (a .h) (a .words) (a .plan))) ∷ []) c → c < 12
+      second (inl p) = let e = p .1 in omega arith
+      second (inr p) = ⊎-elim (λ p. let e = p .1 in omega arith) (λ p. fourth (p .1)) (p .1)
+
+  ends-below : (c : ℕ) → FirstOf ends c → c < 12
+  ends-below c f =
+      ⊎-elim (λ p. let e = p .1 in omega arith)
+      (λ p. ⊎-elim (λ p. let e = p .1 in omega arith) (λ p. ⊎-elim (λ p. let e = p .1 in omega arith) (λ p. let e = p .1 in omega arith) (p .1)) (p .1)) f
+
+  late-beyond : (c : ℕ) → FirstOf (lateRows a) c → 0 < c → c < 12 → ⊥
+  late-beyond c f l m =
+      ⊎-elim (λ p. let e = p .1 in omega arith) (λ p. ⊎-elim (λ p. let e = p .1 in omega arith) (λ p. let e = p .1 in omega arith) (p .1)) f
+
+  -- refused
+  refused-outcome : (c : ℕ) (r : Answer) → FirstOf (queryRows a) c → 0 < c → c < 12 → Refused c r → QueryOutcome a r (a .route) (a .work)
+  refused-outcome c r f l m z =
+      let e = z .code in
+      record {
+        number = subst (FirstOf (queryRows a)) (sym e) f;
+        found = λ k. absurd (⊎-elim (λ i. omega arith) (λ i. omega arith) k);
+        lost = λ k. absurd (omega arith);
+        refused = λ i j. (record { straight = z .straight; diagonal = z .diagonal; cells = z .cells }, z .effort);
+        route-written = λ k. absurd (omega arith);
+        route-kept = λ k. refl;
+        work-cleared = λ k. absurd (⊎-elim (λ i. omega arith) (⊎-elim (λ i. omega arith) (λ i. omega arith)) k);
+        work-kept = λ i j. refl;
+      }
+
+  pub by-plan : (c : ℕ) (r : Answer) → Judged (a .w) (a .h) (a .words) (a .plan) c → 0 < c → Refused c r → QueryOutcome a r (a .route) (a .work)
+  by-plan c r j l z = refused-outcome c r (plan-refuses a c j l) l (plan-below c (j .number)) z
+
+  pub by-ends : (c : ℕ) (r : Answer) → Judged (a .w) (a .h) (a .words) (a .plan) 0 → FirstOf ends c → 0 < c → Refused c r →
+      QueryOutcome a r (a .route) (a .work)
+  by-ends c r j f l z = refused-outcome c r (ends-refuse a c j f l) l (ends-below c f) z
+
+  -- answered
+  pub by-answer : (r : Answer) (route₁ work₁ : List ℕ) → Judged (a .w) (a .h) (a .words) (a .plan) 0 → FirstOf ends 0 → LateOutcome a r route₁ work₁ →
+      QueryOutcome a r route₁ work₁
+  by-answer r route₁ work₁ j f o =
+      record {
+        number = late-decides a (r .code) j f (o .number);
+        found = o .found;
+        lost = o .lost;
+        refused = λ l m. absurd (late-beyond (r .code) (o .number) l m);
+        route-written = o .route-written;
+        route-kept = o .route-kept;
+        work-cleared = λ k. o .work-cleared;
+        work-kept = λ l m. absurd (late-beyond (r .code) (o .number) l m);
+      }

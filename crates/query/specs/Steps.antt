@@ -1,0 +1,67 @@
+-- The parts of a query that its functions answer for: the refusals 1 to 11, and what follows them.
+use Prim.Native.Nat.{ℕ, _+_, _*_, _<_, _≤_}
+use mathlib.Core.Bool.{true}
+use mathlib.Core.Path.{_≡_}
+use mathlib.Core.List.{List, [], _∷_, _++_}
+use mathlib.Core.Logic.{_⊎_}
+use lib.ListN.{length, replicate}
+use Rattle.lengths.specs.Lengths.{Len}
+use Rattle.floor.specs.Board.{at, Free}
+use Rattle.floor.specs.Refusals.{Refusal, refuse, FirstOf}
+use Rattle.floor.specs.Words.{Floor, floorRows, board, placeOf}
+use Rattle.ground.specs.Kind.{walkers}
+use Rattle.ground.specs.Walk.{NoWalk}
+use Rattle.plan.specs.Lists.{written}
+use Rattle.plan.specs.Plan.{Lists}
+use Rattle.effort.specs.Effort.{EffortLost}
+use Rattle.query.specs.Query.{Asked, Fits, Shut, cellsOf, startCell, goalCell, workSize, Distance, Found, NoRoute, Written}
+use Rattle.query.specs.declared.Answer.{Answer}
+
+-- the rows 1, 2, 3 and 8
+abbrev pub planRows : ℕ → ℕ → List ℕ → Lists → List Refusal
+planRows w h words p = floorRows w h words ++ (refuse 8 (¬ (Fits w h words p)) ∷ [])
+
+-- the number that the rows 1, 2, 3 and 8 give; where it is 0 the plan is the floor's own
+pub record Judged (w h : ℕ) (words : List ℕ) (p : Lists) (c : ℕ) : Type 0 where
+  pub number : FirstOf (planRows w h words p) c
+  pub own : c ≡ 0 → Fits w h words p
+
+-- the rows 9, 10 and 11, where the plan has k turning points and `lent` work entries are lent
+abbrev pub endRows : ℕ → ℕ → List ℕ → ℕ → ℕ → ℕ → ℕ → ℕ → ℕ → List Refusal
+endRows w h words sx sy gx gy k lent =
+    refuse 9 (Shut w h words sx sy) ∷ refuse 10 (Shut w h words gx gy) ∷ refuse 11 (lent < 6 * (k + 2)) ∷ []
+
+module _ (a : Asked) where
+  -- the rows 1 to 11
+  abbrev pub earlyRows : List Refusal
+  earlyRows =
+      planRows (a .w) (a .h) (a .words) (a .plan)
+      ++ endRows (a .w) (a .h) (a .words) (a .sx) (a .sy) (a .gx) (a .gy) (length (a .plan .corners)) (length (a .work))
+
+  -- the rows 12 and 13
+  abbrev pub lateRows : List Refusal
+  lateRows =
+      refuse 12 (NoWalk walkers (board (a .w) (a .h) (a .words)) (placeOf (a .w) (startCell a)) (placeOf (a .w) (goalCell a)))
+      ∷ refuse 13 ((l : Len) × Distance a l × (length (a .route) < cellsOf l))
+      ∷ []
+
+  -- none of the rows 1 to 11 applies
+  pub record Ready : Type 0 where
+    pub floor : Floor (a .w) (a .h) (a .words)
+    pub fits : Fits (a .w) (a .h) (a .words) (a .plan)
+    pub start-column : a .sx < a .w
+    pub start-row : a .sy < a .h
+    pub goal-column : a .gx < a .w
+    pub goal-row : a .gy < a .h
+    pub start-free : Free (board (a .w) (a .h) (a .words)) (at (a .sx) (a .sy))
+    pub goal-free : Free (board (a .w) (a .h) (a .words)) (at (a .gx) (a .gy))
+    pub room : workSize a ≤ length (a .work)
+
+  -- what a query comes to that none of them refuses
+  pub record LateOutcome (r : Answer) (route work : List ℕ) : Type 0 where
+    pub number : FirstOf lateRows (r .code)
+    pub found : (r .code ≡ 0) ⊎ (r .code ≡ 13) → Found a r
+    pub lost : r .code ≡ 12 → NoRoute a r × EffortLost (a .w) (a .h) (a .words) (startCell a) (goalCell a) (r .effort)
+    pub route-written : r .code ≡ 0 → Written a route
+    pub route-kept : 0 < r .code → route ≡ a .route
+    pub work-cleared : work ≡ written (replicate (workSize a) 0) (a .work)

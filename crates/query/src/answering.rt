@@ -1,0 +1,69 @@
+// What an answer tells of the direct line, and of a walk that the search has found.
+ghost use mathlib.Core.Path.{_≡_};
+ghost use Prim.Native.Nat.{_+_, _*_, _<_, _≤_};
+ghost use lib.ListN.{length};
+ghost use Rattle.lengths.specs.Lengths.{lenOf};
+ghost use Rattle.floor.specs.Board.{at};
+ghost use Rattle.floor.specs.Words.{numberOf};
+ghost use Rattle.search.specs.Columns.{Next, Only};
+ghost use Rattle.query.specs.Cells.{Cell};
+ghost use Rattle.query.specs.Chain.{Journey, Walked};
+ghost use Rattle.query.specs.Answers.{Told, LineAnswer, Retraced};
+use super::Answer;
+use super::chain;
+use super::line;
+use lengths::Length;
+use search::Trip;
+
+// What is told of a walk of this length, where the route has room for `room` cells.
+fn tell(walk: Length, effort: usize, room: usize) -> Answer
+    requires { ⌜ effort < 65536 ⌝ }
+    ensures { λ r. ⌜ Told (lenOf walk) effort room r ⌝ }
+{
+    let cells = walk.straight as usize + walk.diagonal as usize + 1;
+    let code: u32 = if cells <= room { 0 } else { 13 };
+    Answer {
+        code,
+        straight: walk.straight as u32,
+        diagonal: walk.diagonal as u32,
+        cells: cells as u32,
+        effort: effort as u32,
+    }
+}
+
+// The answer where the direct line from (x, y) to (u, v) is legal: its length, no effort, and its cells as the route.
+fn take_line(w: usize, x: usize, y: usize, u: usize, v: usize, route: &mut [u16]) -> Answer
+    requires cells { ⌜ Cell w x y × Cell w u v ⌝ }
+    requires small { ⌜ (x ≤ 255) × (y ≤ 255) × (u ≤ 255) × (v ≤ 255) ⌝ }
+    ensures { λ r. ⌜ LineAnswer w (numberOf w x y) (at x y) (at u v) r (now (route .entry)) (now (route .exit)) ⌝ }
+{
+    let r = tell(line::line_length(x, y, u, v), 0, route.len());
+    if r.code == 0 {
+        route[0] = (y * w + x) as u16;
+        line::write_line(w, x, y, u, v, route, 1);
+    }
+    r
+}
+
+// The answer where the search has settled the goal: walks back from it, and writes the route where there is room.
+fn retrace(
+    corners: &[u16],
+    starts: &[u16],
+    neighbours: &[u16],
+    t: Trip,
+    effort: usize,
+    route: &mut [u16],
+    work: &mut [u32],
+) -> Answer
+    requires walked { ⌜ ((a : Journey) × Walked a (now corners) (now starts) (now neighbours) t (now work)) ⌝ }
+    requires effort { ⌜ effort < 65536 ⌝ }
+    ensures told { λ r. ⌜ ((a : Journey) → Walked a (now (corners .entry)) (now (starts .entry)) (now (neighbours .entry)) t (now (work .entry)) → Retraced a effort r (now (route .entry)) (now (route .exit))) ⌝ }
+    ensures only { λ r. ⌜ Only (t .k + 2) (now (work .entry)) Next (now (work .exit)) ⌝ }
+{
+    let walk = chain::link_back(corners, starts, neighbours, t, work);
+    let r = tell(walk, effort, route.len());
+    if r.code == 0 {
+        chain::write_route(corners, t, work, route);
+    }
+    r
+}
