@@ -3,9 +3,11 @@ ghost use mathlib.Core.Path.{_≡_};
 ghost use Rattle.lengths.specs.Lengths.{compareOf, pair};
 ghost use Rattle.floor.specs.Refusals.{Tells};
 ghost use Rattle.plan.specs.Survey.{lists, SurveyOutcome};
+ghost use Rattle.query.specs.Query.{QueryOutcome};
 ghost use Rattle.azebimoru.specs.Matches.{OwnPlan};
 use lengths::Length;
 use plan::Surveyed;
+use query::Answer;
 
 // -1, 0 or 1, as the length of a straight and b diagonal steps is less than that of c and d, the same or more.
 #[no_mangle]
@@ -58,4 +60,40 @@ pub extern "C" fn azebimoru_matches(
     } else {
         false
     }
+}
+
+// The shortest walk from (sx, sy) to (gx, gy), its route and its effort, or a refusal by number.
+#[no_mangle]
+pub extern "C" fn azebimoru_query(
+    w: usize,
+    h: usize,
+    words: &[u64],
+    clearances: &[u8],
+    corners: &[u16],
+    starts: &[u16],
+    neighbours: &[u16],
+    sx: usize,
+    sy: usize,
+    gx: usize,
+    gy: usize,
+    route: &mut [u16],
+    work: &mut [u32],
+) -> Answer
+    ensures { λ r. ⌜ QueryOutcome (record { w = w; h = h; words = now (words .entry); plan = record { clear = now (clearances .entry); corners = now (corners .entry); starts = now (starts .entry); neighbours = now (neighbours .entry) }; sx = sx; sy = sy; gx = gx; gy = gy; route = now (route .entry); work = now (work .entry) }) r (now (route .exit)) (now (work .exit)) ⌝ }
+{
+    query::query(
+        words,
+        w,
+        h,
+        clearances,
+        corners,
+        starts,
+        neighbours,
+        sx,
+        sy,
+        gx,
+        gy,
+        route,
+        work,
+    )
 }

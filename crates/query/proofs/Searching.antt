@@ -20,7 +20,7 @@ use Rattle.query.specs.Chain.{Journey, Walked}
 use Rattle.query.specs.Prepared.{Empty, Prepared}
 use Rattle.query.specs.Answers.{Searchable, SearchAnswer, Retraced, Beyond}
 use Rattle.query.specs.declared.Answer.{Answer}
-use Rattle.query.proofs.Wiping.{zeroed-length}
+use Rattle.query.proofs.Wiping.{zeroed-length, zeroed-rest}
 use Rattle.query.proofs.Fairness.{fair}
 use Rattle.query.proofs.Chains.{bounded}
 use Rattle.query.proofs.Efforts.{outcome-found, outcome-lost}
@@ -119,3 +119,22 @@ module _ {w h : ℕ} {words : List ℕ} {p : Lists} {start goal : ℕ} {W : List
       -- the goal was not settled, and there is no walk
       pub lost-effort : getD (columnOf (t .k + 2) W₃ Settled) (t .to) 0 ≤ 0 → EffortLost w h words start goal r
       lost-effort z = outcome-lost (ready .charted) (run .outcome) (le-ltb 0 _ z) (inr (omega arith))
+
+      -- what lies beyond the work space is as it was before it was cleared
+      module _ (cleared : W₁ ≡ written (replicate (6 * (length (p .corners) + 2)) 0) W) where
+        pub lost-beyond : Beyond (6 * (length (p .corners) + 2)) W W₃
+        lost-beyond =
+            record {
+              sized = run .left .sized ∙ ready .sized ∙ long;
+              rest =
+                  subst (λ (k : ℕ). drop (6 * (k + 2)) W₃ ≡ drop (6 * (k + 2)) W₁) (ready .count) (run .left .rest ∙ ready .rest)
+                  ∙ ap (drop (6 * (length (p .corners) + 2))) cleared ∙ zeroed-rest W (6 * (length (p .corners) + 2));
+            }
+
+        -- also after the walk back
+        pub found-beyond : {W₄ : List ℕ} → Only (t .k + 2) W₃ Next W₄ → Beyond (6 * (length (p .corners) + 2)) W W₄
+        found-beyond {W₄} only =
+            record {
+              sized = only .sized ∙ lost-beyond .sized;
+              rest = subst (λ (k : ℕ). drop (6 * (k + 2)) W₄ ≡ drop (6 * (k + 2)) W₃) (ready .count) (only .rest) ∙ lost-beyond .rest;
+            }

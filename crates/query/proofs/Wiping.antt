@@ -30,3 +30,11 @@ pub zeroed-length : (xs : List ℕ) (i : ℕ) → i ≤ length xs → length (ze
 zeroed-length xs i l =
     length-append (replicate i 0) (drop (length (replicate i 0)) xs)
     ∙ omega (arith, length-replicate i (let z : ℕ = 0 in z), length-drop (length (replicate i (let z : ℕ = 0 in z))) xs)
+
+-- and the entries behind them as they were
+pub zeroed-rest : (xs : List ℕ) (i : ℕ) → drop i (zeroed i xs) ≡ drop i xs
+zeroed-rest xs i = ap (λ (n : ℕ). drop i (replicate i 0 ++ drop n xs)) (length-replicate i 0) ∙ behind i
+  where
+    behind : (n : ℕ) → {ys : List ℕ} → drop n (replicate n 0 ++ ys) ≡ ys
+    behind zero = refl
+    behind (suc n) = behind n

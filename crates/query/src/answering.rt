@@ -1,4 +1,4 @@
-// What an answer tells of the direct line, and of a walk that the search has found.
+// The answer to a question that is not refused: by the direct line, or by the search.
 ghost use mathlib.Core.Path.{_≡_};
 ghost use Prim.Native.Nat.{_+_, _*_, _<_, _≤_};
 ghost use lib.ListN.{length};
@@ -8,10 +8,13 @@ ghost use Rattle.floor.specs.Words.{numberOf};
 ghost use Rattle.search.specs.Columns.{Next, Only};
 ghost use Rattle.query.specs.Cells.{Cell};
 ghost use Rattle.query.specs.Chain.{Journey, Walked};
-ghost use Rattle.query.specs.Answers.{Told, LineAnswer, Retraced};
+ghost use Rattle.query.specs.Steps.{Ready, LateOutcome};
+ghost use Rattle.query.specs.Answers.{Told, LineAnswer, Retraced, Searchable, SearchAnswer, Beyond};
 use super::Answer;
 use super::chain;
 use super::line;
+use super::preparing;
+use super::refusing;
 use lengths::Length;
 use search::Trip;
 
@@ -65,5 +68,92 @@ fn retrace(
     if r.code == 0 {
         chain::write_route(corners, t, work, route);
     }
+    r
+}
+
+// The answer where the direct line is barred.
+fn search_answer(
+    words: &[u64],
+    w: usize,
+    h: usize,
+    clear: &[u8],
+    corners: &[u16],
+    starts: &[u16],
+    neighbours: &[u16],
+    start: usize,
+    goal: usize,
+    route: &mut [u16],
+    work: &mut [u32],
+) -> Answer
+    requires { ⌜ Searchable w h (now words) (record { clear = now clear; corners = now corners; starts = now starts; neighbours = now neighbours }) start goal (now work) ⌝ }
+    ensures answer { λ r. ⌜ SearchAnswer w h (now (words .entry)) (record { clear = now (clear .entry); corners = now (corners .entry); starts = now (starts .entry); neighbours = now (neighbours .entry) }) start goal r (now (route .entry)) (now (route .exit)) ⌝ }
+    ensures beyond { λ r. ⌜ Beyond (6 * (length (now (corners .entry)) + 2)) (now (work .entry)) (now (work .exit)) ⌝ }
+{
+    refusing::zero_first(work, 6 * (corners.len() + 2));
+    let t = preparing::prepare(
+        words,
+        w,
+        h,
+        clear,
+        corners,
+        starts,
+        neighbours,
+        start,
+        goal,
+        work,
+    );
+    let places = t.k + 2;
+    let effort = search::run(corners, starts, neighbours, t, work, places);
+    if search::get(work, places, search::SETTLED, t.to) > 0 {
+        retrace(corners, starts, neighbours, t, effort, route, work)
+    } else {
+        Answer {
+            code: 12,
+            straight: 0,
+            diagonal: 0,
+            cells: 0,
+            effort: effort as u32,
+        }
+    }
+}
+
+// The answer to a question that none of the refusals 1 to 11 stops.
+pub fn answer(
+    words: &[u64],
+    w: usize,
+    h: usize,
+    clear: &[u8],
+    corners: &[u16],
+    starts: &[u16],
+    neighbours: &[u16],
+    sx: usize,
+    sy: usize,
+    gx: usize,
+    gy: usize,
+    route: &mut [u16],
+    work: &mut [u32],
+) -> Answer
+    requires { ⌜ Ready (record { w = w; h = h; words = now words; plan = record { clear = now clear; corners = now corners; starts = now starts; neighbours = now neighbours }; sx = sx; sy = sy; gx = gx; gy = gy; route = now route; work = now work }) ⌝ }
+    ensures { λ r. ⌜ LateOutcome (record { w = w; h = h; words = now (words .entry); plan = record { clear = now (clear .entry); corners = now (corners .entry); starts = now (starts .entry); neighbours = now (neighbours .entry) }; sx = sx; sy = sy; gx = gx; gy = gy; route = now (route .entry); work = now (work .entry) }) r (now (route .exit)) (now (work .exit)) ⌝ }
+{
+    if line::line_legal(words, w, h, sx, sy, gx, gy) {
+        let r = take_line(w, sx, sy, gx, gy, route);
+        refusing::zero_first(work, 6 * (corners.len() + 2));
+        return r;
+    }
+    let r = search_answer(
+        words,
+        w,
+        h,
+        clear,
+        corners,
+        starts,
+        neighbours,
+        sy * w + sx,
+        gy * w + gx,
+        route,
+        work,
+    );
+    refusing::zero_first(work, 6 * (corners.len() + 2));
     r
 }

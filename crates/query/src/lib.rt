@@ -1,4 +1,5 @@
 // One question: the direct line, the search, the chain back from the goal and the route.
+ghost use Rattle.query.specs.Query.{QueryOutcome};
 ghost use Rattle.query.specs.Answers.{Refused};
 
 mod answering;
@@ -30,4 +31,47 @@ fn refused(code: u32) -> Answer
         cells: 0,
         effort: 0,
     }
+}
+
+// Answers one question: the refusals in their order, then the direct line, then the search.
+pub fn query(
+    words: &[u64],
+    w: usize,
+    h: usize,
+    clear: &[u8],
+    corners: &[u16],
+    starts: &[u16],
+    neighbours: &[u16],
+    sx: usize,
+    sy: usize,
+    gx: usize,
+    gy: usize,
+    route: &mut [u16],
+    work: &mut [u32],
+) -> Answer
+    ensures { λ r. ⌜ QueryOutcome (record { w = w; h = h; words = now (words .entry); plan = record { clear = now (clear .entry); corners = now (corners .entry); starts = now (starts .entry); neighbours = now (neighbours .entry) }; sx = sx; sy = sy; gx = gx; gy = gy; route = now (route .entry); work = now (work .entry) }) r (now (route .exit)) (now (work .exit)) ⌝ }
+{
+    let plan_code = refusing::plan_refusal(words, w, h, clear, corners, starts, neighbours);
+    if plan_code != 0 {
+        return refused(plan_code);
+    }
+    let code = refusing::ends_refusal(words, w, h, sx, sy, gx, gy, corners.len(), work.len());
+    if code != 0 {
+        return refused(code);
+    }
+    answering::answer(
+        words,
+        w,
+        h,
+        clear,
+        corners,
+        starts,
+        neighbours,
+        sx,
+        sy,
+        gx,
+        gy,
+        route,
+        work,
+    )
 }
