@@ -56,7 +56,7 @@ pub extern "C" fn azebimoru_matches(
     ensures { λ r. ⌜ Tells (OwnPlan w h (now (words .entry)) (lists (now (clearances .entry)) (now (corners .entry)) (now (starts .entry)) (now (neighbours .entry)))) r ⌝ }
 {
     if floor::check_floor(words, w, h) == 0 {
-        plan::matches(words, w, h, clearances, corners, starts, neighbours)
+        matching::matches(words, w, h, clearances, corners, starts, neighbours)
     } else {
         false
     }

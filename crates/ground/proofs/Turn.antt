@@ -8,8 +8,7 @@ use mathlib.Core.Logic.{_⊎_, inl, inr, ⊎-elim}
 use Prim.Native.Nat.{ℕ}
 use native.Mathlib.Omega.{arith}
 use Rattle.lengths.specs.Lengths.{Len, pair, _⊕_, _≺_}
-use Rattle.lengths.specs.Laws.{⊕-≺, ≺-trans}
-use Rattle.lengths.specs.Laws.{straight-≺-diagonal, diagonal-≺-two}
+use Rattle.lengths.specs.Laws.{⊕-≺, ≺-trans, straight-≺-diagonal, diagonal-≺-two}
 use Rattle.floor.specs.Board.{Board, Padded, Place, Free, Dir, Offset, less, same, more, dx, dy, shift, go, moving, slanted, corner}
 use Rattle.ground.specs.Kind.{walkers}
 use Rattle.ground.specs.Walk.{end, Legal, size, len}

@@ -5,9 +5,10 @@ use mathlib.Core.Path.{_≡_, sym, _∙_, subst}
 use native.Mathlib.Decide.{ℕ-discrete}
 use native.Mathlib.Omega.{arith}
 use lib.ListN.{length}
-use Rattle.plan.specs.Lists.{part}
+use Rattle.marks.specs.Lists.{part}
 use Rattle.plan.specs.Rising.{In, Rising}
-use Rattle.plan.specs.Linking.{ShownIn, Finding, Grown, FieldSwept, OneLinked}
+use Rattle.fields.specs.Fields.{ShownIn}
+use Rattle.plan.specs.Linking.{Finding, Grown, FieldSwept, OneLinked}
 use Rattle.plan.specs.declared.Filled.the-variants.{To, NoRoom}
 use Rattle.plan.proofs.Growing.{grown-self, grown-trans}
 

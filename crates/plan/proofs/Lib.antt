@@ -1,15 +1,4 @@
 -- Laws that belong to no one function.
-pub mod Cells
-pub mod Recurrence
-pub mod Orders
-pub mod Beside
-pub mod Selects
-pub mod Listed
-pub mod Marked
-pub mod Rays
-pub mod Aheads
-pub mod Sweeps
-pub mod Passes
 pub mod Linked
 pub mod Risings
 pub mod Pickings
@@ -23,5 +12,3 @@ pub mod Linkings
 pub mod Wipings
 pub mod Surveys
 pub mod SurveyOnly
-pub mod Entries
-pub mod Matched

@@ -23,8 +23,7 @@ use Rattle.ground.proofs.Near.{Near}
 use Rattle.ground.proofs.Octile.{tame-within, tame-octile}
 use Rattle.ground.proofs.LineEnds.{block-len, line-end, line-diagonal}
 use Rattle.ground.proofs.RowTest.{Sides, beside-sides, cell-iff-rows}
-use Rattle.plan.specs.Fields.{slant, side, Shows}
-use Rattle.plan.specs.Matching.{fieldBy, fieldTo}
+use Rattle.fields.specs.Fields.{slant, side, Shows, fieldBy, fieldTo}
 
 -- the two directions of a field: a diagonal one and a straight one beside it
 record Beside (d c : Dir) : Type 0 where

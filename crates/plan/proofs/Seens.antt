@@ -14,9 +14,10 @@ use Rattle.ground.specs.Link.{Direct, Link}
 use Rattle.ground.proofs.Choose.{place-discrete}
 use Rattle.ground.proofs.Joined.{direct-dec}
 use Rattle.ground.proofs.Logic.{and-left}
-use Rattle.plan.specs.Plan.{cornerCell, cornerCells, LinkedCells}
+use Rattle.marks.specs.Marks.{cornerCell, cornerCells}
+use Rattle.plan.specs.Plan.{LinkedCells}
 use Rattle.plan.specs.Rising.{In}
-use Rattle.plan.specs.Linking.{Seen}
+use Rattle.fields.specs.Fields.{Seen}
 use Rattle.plan.proofs.Linked.{shown-link, link-shown}
 use Rattle.plan.proofs.Pickings.{select-in, in-select}
 

@@ -10,11 +10,12 @@ use Rattle.floor.specs.Board.{dirAt}
 use Rattle.floor.specs.Words.{board, placeOf}
 use Rattle.floor.proofs.Tables.{first-unique}
 use Rattle.ground.specs.Kind.{walkers}
-use Rattle.plan.specs.Lists.{written}
-use Rattle.plan.specs.Plan.{Cleared, Links, Lists, PlanOf}
+use Rattle.marks.specs.Lists.{written}
+use Rattle.marks.specs.Marks.{Cleared}
+use Rattle.plan.specs.Plan.{Links, Lists, PlanOf}
 use Rattle.plan.specs.Survey.{surveyRows, Done, Refused, SurveyOutcome}
 use Rattle.plan.specs.declared.Surveyed.{Surveyed}
-use Rattle.plan.proofs.Recurrence.{one-clearance}
+use Rattle.marks.proofs.Recurrence.{one-clearance}
 use Rattle.plan.proofs.Surveys.{first-few, one-links}
 
 -- four lists are the same where each is

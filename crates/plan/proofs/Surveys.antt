@@ -13,9 +13,10 @@ use Rattle.floor.proofs.Tables.{first-here, first-later}
 use Rattle.floor.proofs.Accepted.{accepted}
 use Rattle.floor.proofs.FreeCells.{free-cells-are}
 use Rattle.ground.specs.Kind.{walkers}
-use Rattle.plan.specs.Lists.{written}
-use Rattle.plan.specs.Plan.{ClearanceAt, cornerCells, Marks, Links, Lists}
-use Rattle.plan.specs.Marking.{MarkedAll}
+use Rattle.marks.specs.Lists.{written}
+use Rattle.marks.specs.Marks.{ClearanceAt, cornerCells, Marks}
+use Rattle.plan.specs.Plan.{Links, Lists}
+use Rattle.marks.specs.Marking.{MarkedAll}
 use Rattle.plan.specs.Linking.{AllLinked}
 use Rattle.plan.specs.Survey.{cornerCount, lentRows, earlyRows, TooMany, lastRow, lists, wipedAll, refusal, SurveyOutcome}
 use Rattle.plan.specs.declared.Surveyed.{Surveyed}

@@ -7,15 +7,15 @@ use native.Mathlib.Decide.{ℕ-discrete, decLe}
 use native.Mathlib.Omega.{arith}
 use lib.ListN.{length}
 use Rattle.floor.specs.Words.{placeOf}
-use Rattle.plan.specs.Lists.{part}
+use Rattle.marks.specs.Lists.{part}
 use Rattle.plan.specs.Rising.{In}
-use Rattle.plan.specs.Fields.{Standing, PassedRow, NewRow, begun}
-use Rattle.plan.specs.Linking.{PutShown, ShownIn, Seen, Sweepable, Finding, Crowded, Grown}
-use Rattle.plan.specs.declared.Sweep.{Sweep}
+use Rattle.fields.specs.Fields.{Standing, PassedRow, NewRow, begun, ShownIn, Seen, Sweepable}
+use Rattle.plan.specs.Linking.{PutShown, Finding, Crowded, Grown}
+use Rattle.fields.specs.declared.Sweep.{Sweep}
 use Rattle.plan.specs.declared.Filled.the-variants.{To, NoRoom}
-use Rattle.plan.proofs.Cells.{number-of-cell}
+use Rattle.marks.proofs.Cells.{number-of-cell}
 use Rattle.plan.proofs.Growing.{grown-self, grown-trans, Put, put-shown, crowded}
-use Rattle.plan.proofs.Passes.{begin-standing}
+use Rattle.fields.proofs.Passes.{begin-standing}
 
 -- what a row shows is a cell, so a number of 16 bits
 pub few-shown : (w h : ℕ) {P : ℕ → Type 0} → w * h ≤ 16384 → (shown : ℕ) → ((t : ℕ) → shown ≡ suc t → (t < w * h) × P t) → shown ≤ 65536

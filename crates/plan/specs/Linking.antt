@@ -1,16 +1,14 @@
 -- What linking leaves in the list of neighbours, turning point by turning point. These are states of code.
-use Prim.Native.Nat.{ℕ, zero, suc, _+_, _*_, _/_, _%_, _≤_, _<_}
+use Prim.Native.Nat.{ℕ, zero, suc, _+_, _≤_, _<_}
 use mathlib.Core.List.{List}
 use mathlib.Core.Logic.{_⊎_}
 use mathlib.Core.Path.{_≡_}
 use lib.ListN.{length, getD}
-use Rattle.floor.specs.Board.{Free}
-use Rattle.floor.specs.Words.{board, placeOf, Floor}
 use Rattle.ground.specs.Kind.{walkers}
-use Rattle.plan.specs.Lists.{part, written}
-use Rattle.plan.specs.Plan.{Cleared, Links}
+use Rattle.marks.specs.Lists.{part, written}
+use Rattle.plan.specs.Plan.{Links}
 use Rattle.plan.specs.Rising.{In, Rising}
-use Rattle.plan.specs.Fields.{ShowsIn}
+use Rattle.fields.specs.Fields.{ShownIn, Seen}
 use Rattle.plan.specs.Inserting.{Inserted}
 use Rattle.plan.specs.Survey.{TooMany}
 use Rattle.plan.specs.declared.Filled.{Filled}
@@ -22,38 +20,19 @@ PutShown list from m zero r exit = (r ≡ To m) × (exit ≡ list)
 PutShown list from m (suc t) r exit = Inserted list from m t r exit
 
 module _ (w h : ℕ) (words : List ℕ) (s : ℕ) where
-  -- row n of field f from cell s shows cell t
-  abbrev pub ShownIn : ℕ → ℕ → ℕ → Type 0
-  ShownIn f n t = (t < w * h) × ShowsIn w h words (s % w) (s / w) f n (placeOf w t)
-
-  -- some row of some field from cell s shows cell t
-  pub record Seen (t : ℕ) : Type 0 where
-    pub field : ℕ
-    pub row : ℕ
-    pub field-in : field < 8
-    pub shown : ShownIn field row t
-
-  -- what a sweep from cell s takes
-  pub record Sweepable (clear : List ℕ) : Type 0 where
-    pub floor : Floor w h words
-    pub long : 4 * (w * h) ≤ length clear
-    pub cleared : Cleared w h words clear
-    pub cell-in : s < w * h
-    pub free : Free (board w h words) (placeOf w s)
-
   -- what stands from `from` up to m ascends, and each was seen from s
   pub record Finding (list : List ℕ) (from m : ℕ) : Type 0 where
     pub after : from ≤ m
     pub inside : m ≤ length list
     pub few : m ≤ 32768
     pub rising : Rising (part list from m)
-    pub seen : (t : ℕ) → In t (part list from m) → Seen t
+    pub seen : (t : ℕ) → In t (part list from m) → Seen w h words s t
 
   -- more was seen from s than there is room for from `from` on, or than there may be
   pub record Crowded (length-lent from : ℕ) : Type 0 where
     pub found : List ℕ
     pub rising : Rising found
-    pub seen : (t : ℕ) → In t found → Seen t
+    pub seen : (t : ℕ) → In t found → Seen w h words s t
     pub too-many : (length-lent < from + length found) ⊎ (32768 < from + length found)
 
 -- the entries from `from` up to k took the place of those up to m, and nothing else changed

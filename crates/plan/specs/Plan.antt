@@ -1,42 +1,13 @@
 -- The plan of a floor (01, "Turning points, clearances, links"): clearances, turning points, starts and neighbours.
-use Prim.Native.Nat.{ℕ, suc, _+_, _*_, _<_, _≤_}
+use Prim.Native.Nat.{ℕ, suc, _<_, _≤_}
 use mathlib.Core.Path.{_≡_}
-use mathlib.Core.Bool.{Bool, true, false}
 use mathlib.Core.List.{List}
-use mathlib.Core.Logic.{_⊎_}
 use lib.ListN.{length, getD}
-use Rattle.floor.specs.Board.{Board, Place, Dir, dirAt, corner}
 use Rattle.floor.specs.Words.{board, placeOf}
 use Rattle.ground.specs.Kind.{Kind, walkers}
 use Rattle.ground.specs.Link.{Link}
-use Rattle.ground.specs.Clearance.{Clearance}
-use Rattle.plan.specs.Lists.{part, select, Picked}
-
--- the clearance of a place, 0 where it is blocked
-abbrev pub ClearanceAt : Board → Dir → Place → ℕ → Type 0
-ClearanceAt B d p m = ((B (p .x) (p .y) ≡ false) × (m ≡ 0)) ⊎ Clearance B d p m
-
--- the cell with a number is a turning point
-abbrev pub cornerCell : ℕ → ℕ → List ℕ → ℕ → Bool
-cornerCell w h words c = corner (board w h words) (placeOf w c)
-
--- the turning points, ascending
-abbrev pub cornerCells : ℕ → ℕ → List ℕ → List ℕ
-cornerCells w h words = select (cornerCell w h words) (w * h)
-
--- entry 4 c + d of the clearances is that of cell c in direction d
-abbrev pub ClearedAt : ℕ → ℕ → List ℕ → List ℕ → ℕ → ℕ → Type 0
-ClearedAt w h words clear c d = ClearanceAt (board w h words) (dirAt d) (placeOf w c) (getD clear (4 * c + d) 0)
-
--- every clearance is in its entry
-abbrev pub Cleared : ℕ → ℕ → List ℕ → List ℕ → Type 0
-Cleared w h words clear = (c d : ℕ) → c < w * h → d < 4 → ClearedAt w h words clear c d
-
--- what marking finds: the clearances, four per cell in the order N, E, S, W, by cell number; and the turning points
-pub record Marks (w h : ℕ) (words clear corners : List ℕ) : Type 0 where
-  pub four-each : length clear ≡ 4 * (w * h)
-  pub cleared : Cleared w h words clear
-  pub ascending : corners ≡ cornerCells w h words
+use Rattle.marks.specs.Lists.{part, Picked}
+use Rattle.marks.specs.Marks.{Marks}
 
 -- two cells, by number, are linked: Definition 3 on the floor's board
 abbrev pub LinkedCells : Kind → ℕ → ℕ → List ℕ → ℕ → ℕ → Type 0
@@ -67,3 +38,9 @@ pub record Lists : Type 0 where
 pub record PlanOf (w h : ℕ) (words : List ℕ) (p : Lists) : Type 0 where
   pub marks : Marks w h words (p .clear) (p .corners)
   pub links : Links walkers w h words (p .corners) (p .starts) (p .neighbours)
+
+-- the lists are this floor's own plan, which is within its limits
+pub record Fits (w h : ℕ) (words : List ℕ) (p : Lists) : Type 0 where
+  pub own : PlanOf w h words p
+  pub few-corners : length (p .corners) ≤ 2048
+  pub few-arcs : length (p .neighbours) ≤ 32768

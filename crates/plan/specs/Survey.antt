@@ -7,8 +7,9 @@ use lib.ListN.{length}
 use Rattle.floor.specs.Refusals.{Refusal, refuse, FirstOf}
 use Rattle.floor.specs.Words.{floorRows, freeCells}
 use Rattle.ground.specs.Kind.{walkers}
-use Rattle.plan.specs.Lists.{written, wiped}
-use Rattle.plan.specs.Plan.{cornerCells, Links, Lists, PlanOf}
+use Rattle.marks.specs.Lists.{written, wiped}
+use Rattle.marks.specs.Marks.{cornerCells}
+use Rattle.plan.specs.Plan.{Links, Lists, PlanOf}
 use Rattle.plan.specs.declared.Surveyed.{Surveyed}
 
 -- K, the number of turning points

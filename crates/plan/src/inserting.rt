@@ -4,11 +4,10 @@ ghost use mathlib.Core.Path.{_≡_};
 ghost use Prim.Native.Nat.{suc, _<_, _≤_};
 ghost use lib.ListN.{length, getD, take, drop};
 ghost use Rattle.floor.specs.Refusals.{Tells};
-ghost use Rattle.plan.specs.Lists.{part};
+ghost use Rattle.marks.specs.Lists.{part};
 ghost use Rattle.plan.specs.Inserting.{Found, Inserted};
 use super::Filled;
-
-pub const MAX_ARCS: usize = 32768;
+use super::MAX_ARCS;
 
 // The first place from `from` up to `to` whose entry is not below t, or `to`.
 pub fn find(list: &[u16], from: usize, to: usize, t: u16) -> usize

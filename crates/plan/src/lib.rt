@@ -1,21 +1,19 @@
-// The plan of a floor: clearances, turning points, starts and neighbours; made by survey, and recognised by matches.
+// The plan of a floor: clearances, turning points, starts and neighbours, written into four lent lists.
 ghost use mathlib.Core.Path.{_≡_};
 ghost use lib.ListN.{length};
 ghost use Rattle.floor.specs.Refusals.{FirstOf};
-ghost use Rattle.plan.specs.Lists.{wiped};
+ghost use Rattle.marks.specs.Lists.{wiped};
 ghost use Rattle.plan.specs.Survey.{earlyRows, lists, wipedAll, refusal, SurveyOutcome};
 
-mod fields;
 mod inserting;
 mod linking;
-mod marking;
-mod matching;
 
-pub use fields::begin;
-pub use fields::pass_row;
-pub use matching::matches;
+pub use inserting::find;
+pub use inserting::stands;
 
 pub const MAX_CORNERS: usize = 2048;
+
+pub const MAX_ARCS: usize = 32768;
 
 // What a survey returns: the number of document 01's table, and where it is 0 the free cells, the turning points and the arcs.
 #[repr(C)]
@@ -30,20 +28,6 @@ pub struct Surveyed {
 pub enum Filled {
     To(usize),
     NoRoom,
-}
-
-// The sweep of one field from cell (sx, sy): row `row` begins at cell (x, y), `reach` steps are open in all rows before it, `shown` is one
-// more than the cell of the turning point that the row just passed shows, or 0, and `on` says whether there is a row to pass.
-pub struct Sweep {
-    pub sx: usize,
-    pub sy: usize,
-    pub field: usize,
-    pub row: usize,
-    pub x: usize,
-    pub y: usize,
-    pub reach: usize,
-    pub shown: usize,
-    pub on: bool,
 }
 
 // The answer of a refusal: all numbers but the code are 0.
@@ -108,7 +92,7 @@ fn survey_refusal(
     if clear.len() < 4 * (w * h) {
         return 4;
     }
-    let k = marking::count_corners(words, w, h);
+    let k = marks::count_corners(words, w, h);
     if corners.len() < k {
         return 5;
     }
@@ -137,9 +121,9 @@ pub fn survey(
     if bad != 0 {
         return refused(bad);
     }
-    marking::mark_clearances(words, w, h, clear);
-    marking::mark_corners(words, w, h, corners);
-    let k = marking::count_corners(words, w, h);
+    marks::mark_clearances(words, w, h, clear);
+    marks::mark_corners(words, w, h, corners);
+    let k = marks::count_corners(words, w, h);
     let linked = linking::link(words, w, h, clear, &corners[..k], starts, neighbours);
     let Filled::To(m) = linked else {
         wipe(clear, corners, starts, neighbours);

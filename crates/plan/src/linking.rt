@@ -3,10 +3,10 @@ ghost use mathlib.Core.Path.{_≡_};
 ghost use Prim.Native.Nat.{_+_, _*_, _<_, _≤_};
 ghost use lib.ListN.{length};
 ghost use Rattle.floor.specs.Words.{Floor};
-ghost use Rattle.plan.specs.Plan.{cornerCells, Cleared};
-ghost use Rattle.plan.specs.Linking.{PutShown, Sweepable, Finding, FieldSwept, OneLinked, LinkOutcome};
+ghost use Rattle.marks.specs.Marks.{cornerCells, Cleared};
+ghost use Rattle.plan.specs.Linking.{PutShown, Finding, FieldSwept, OneLinked, LinkOutcome};
+ghost use Rattle.fields.specs.Fields.{Sweepable};
 use super::Filled;
-use super::fields;
 use super::inserting;
 
 // Puts what a row shows, one more than a cell or 0 for nothing, in its place.

@@ -13,9 +13,10 @@ use Rattle.floor.proofs.Places.{padded}
 use Rattle.ground.specs.Kind.{walkers}
 use Rattle.ground.specs.Link.{Direct}
 use Rattle.ground.proofs.Logic.{true-or-false, not-both}
-use Rattle.plan.specs.Plan.{Lists, PlanOf, cornerCell}
-use Rattle.plan.specs.Linking.{Seen, Sweepable}
-use Rattle.plan.proofs.Cells.{same-cell}
+use Rattle.plan.specs.Plan.{Lists, PlanOf}
+use Rattle.marks.specs.Marks.{cornerCell}
+use Rattle.fields.specs.Fields.{Seen, Sweepable}
+use Rattle.marks.proofs.Cells.{same-cell}
 use Rattle.plan.proofs.Linked.{shown-direct, direct-shown}
 use Rattle.search.specs.Columns.{columnOf, Only, ByStart, ByGoal, Label, Tree, Settled}
 use Rattle.search.specs.Places.{indexOf, Ascending}
@@ -24,11 +25,11 @@ use Rattle.search.specs.Search.{Blank}
 use Rattle.search.specs.declared.Trip.{Trip}
 use Rattle.query.specs.Flags.{Flag, FlagRoom, Flaggable, Flagging, AllFlagged}
 use Rattle.query.specs.Answers.{Searchable}
-use Rattle.query.specs.Charted.{Charted, DirectCells}
+use Rattle.chain.specs.Charted.{Charted, DirectCells}
 use Rattle.query.specs.Prepared.{Empty, EndFlags, Prepared}
 use Rattle.query.specs.Trips.{TripOf}
-use Rattle.query.proofs.Entries.{index-at, index-most}
-use Rattle.query.proofs.Corners.{corners-ascend, corner-at, corner-index, index-corner, index-none}
+use Rattle.chain.proofs.Entries.{index-at, index-most}
+use Rattle.chain.proofs.Corners.{corners-ascend, corner-at, corner-index, index-corner, index-none}
 use Rattle.search.proofs.Columns.{only-same}
 
 -- ---- the flags of one end

@@ -11,17 +11,18 @@ use Rattle.floor.specs.Words.{rowWords, UnusedClear, board, placeOf}
 use Rattle.ground.specs.Kind.{walkers}
 use Rattle.ground.specs.Walk.{Legal}
 use Rattle.ground.specs.Line.{line}
-use Rattle.plan.specs.Lists.{written}
-use Rattle.plan.proofs.Cells.{place-of-number, number-in}
-use Rattle.query.specs.Cells.{Cell}
-use Rattle.query.specs.Route.{LineClear}
-use Rattle.query.specs.Query.{Asked, Fits, startCell, goalCell, workSize, queryRows, QueryOutcome}
+use Rattle.marks.specs.Lists.{written}
+use Rattle.marks.proofs.Cells.{place-of-number, number-in}
+use Rattle.line.specs.Cells.{Cell}
+use Rattle.chain.specs.Route.{LineClear}
+use Rattle.query.specs.Query.{Asked, startCell, goalCell, workSize, queryRows, QueryOutcome}
+use Rattle.plan.specs.Plan.{Fits}
 use Rattle.query.specs.Steps.{Judged, planRows, endRows, lateRows, Ready, LateOutcome}
 use Rattle.query.specs.Answers.{LineAnswer, Searchable, SearchAnswer, Beyond, Refused}
 use Rattle.query.specs.declared.Answer.{Answer}
 use Rattle.query.proofs.Early.{plan-refuses, ends-refuse, late-decides}
 use Rattle.query.proofs.Late.{late-line, late-lost, late-search}
-use Rattle.query.proofs.Runs.{cell-in}
+use Rattle.line.proofs.Runs.{cell-in}
 use Rattle.query.proofs.Stay.{start-is-goal}
 
 -- ---- the work space

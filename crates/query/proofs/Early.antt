@@ -13,8 +13,8 @@ use Rattle.floor.specs.Words.{Floor, floorRows, board}
 use Rattle.floor.proofs.Accepted.{accepted}
 use Rattle.floor.proofs.Tables.{first-here, first-later, not-so}
 use Rattle.ground.proofs.Logic.{true-or-false}
-use Rattle.plan.specs.Plan.{Lists}
-use Rattle.query.specs.Query.{Asked, Fits, Shut, queryRows}
+use Rattle.plan.specs.Plan.{Lists, Fits}
+use Rattle.query.specs.Query.{Asked, Shut, queryRows}
 use Rattle.query.specs.Steps.{Judged, planRows, endRows, earlyRows, lateRows, Ready}
 
 -- none of the first rows applies where none of all does

@@ -7,12 +7,12 @@ use native.Mathlib.Decide.{ℕ-discrete}
 use native.Mathlib.Omega.{arith}
 use lib.ListN.{length, getD, set}
 use lib.Seq.{getD-set-same, getD-set-other}
-use Rattle.plan.specs.Linking.{Seen}
+use Rattle.fields.specs.Fields.{Seen}
 use Rattle.search.specs.Columns.{columnOf, Only, Put}
 use Rattle.search.specs.Places.{indexOf}
 use Rattle.search.proofs.Columns.{column-length, only-same, only-trans}
 use Rattle.query.specs.Flags.{Flag, FlagRoom, FlagShown, Flagging}
-use Rattle.query.proofs.Entries.{index-hit}
+use Rattle.chain.proofs.Entries.{index-hit}
 
 -- the room stays as it was
 pub same-room : {corners : List ℕ} {n c : ℕ} {W W′ : List ℕ} → FlagRoom corners n c W → Only n W c W′ → FlagRoom corners n c W′

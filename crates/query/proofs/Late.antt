@@ -16,11 +16,11 @@ use Rattle.ground.specs.Line.{line}
 use Rattle.ground.proofs.Least.{line-shortest}
 use Rattle.ground.proofs.LineEnds.{line-end}
 use Rattle.ground.proofs.Walks.{shortest-unique}
-use Rattle.plan.specs.Lists.{written}
+use Rattle.marks.specs.Lists.{written}
 use Rattle.effort.specs.Effort.{Far}
-use Rattle.query.specs.Cells.{after}
-use Rattle.query.specs.Route.{LineClear, RouteOf}
-use Rattle.query.specs.Query.{Asked, cellsOf, startCell, goalCell, workSize, Distance, Found, Billed, Written}
+use Rattle.line.specs.Cells.{after}
+use Rattle.chain.specs.Route.{LineClear, RouteOf, cellsOf}
+use Rattle.query.specs.Query.{Asked, startCell, goalCell, workSize, Distance, Found, Billed, Written}
 use Rattle.query.specs.Steps.{lateRows, Ready, LateOutcome}
 use Rattle.query.specs.Answers.{Measured, RouteLeft, LineAnswer, SearchFound, SearchLost}
 use Rattle.query.specs.declared.Answer.{Answer}

@@ -1,32 +1,14 @@
--- Laws of a query's route and of its promise.
-pub mod Single
-pub mod Exists
-pub mod Legal
+-- Laws that belong to no one function.
 pub mod Outcome
 pub mod Passed
 pub mod Billing
 pub mod Stay
 pub mod Whole
-pub mod Ways
-pub mod Firsts
-pub mod Runs
-pub mod Legs
-pub mod Entries
-pub mod Counting
-pub mod Corners
-pub mod Places
-pub mod Fairness
-pub mod Links
-pub mod Chains
-pub mod Efforts
-pub mod Back
 pub mod Flagged
 pub mod Wiping
 pub mod Early
 pub mod Late
 pub mod Charting
-pub mod Backwards
-pub mod Paving
 pub mod Telling
 pub mod Retracing
 pub mod Searching

@@ -11,12 +11,13 @@ use Rattle.lengths.specs.Laws.{le-or-lt}
 use Rattle.floor.specs.Refusals.{Refusal, FirstOf}
 use Rattle.floor.proofs.Tables.{first-unique}
 use Rattle.ground.proofs.Walks.{shortest-unique}
-use Rattle.plan.specs.Lists.{written}
+use Rattle.marks.specs.Lists.{written}
 use Rattle.plan.specs.Rising.{In}
 use Rattle.effort.proofs.Bounds.{found-unique, lost-unique}
-use Rattle.query.specs.Query.{Asked, cellsOf, startCell, goalCell, queryRows, Billed, Found, NoRoute, Written, QueryOutcome}
+use Rattle.query.specs.Query.{Asked, startCell, goalCell, queryRows, Billed, Found, NoRoute, Written, QueryOutcome}
+use Rattle.chain.specs.Route.{cellsOf}
 use Rattle.query.specs.declared.Answer.{Answer}
-use Rattle.query.proofs.Single.{route-unique}
+use Rattle.chain.proofs.Single.{route-unique}
 
 -- the numbers of a table's rows
 abbrev pub numbers : List Refusal → List ℕ

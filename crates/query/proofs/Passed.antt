@@ -18,7 +18,9 @@ use Rattle.ground.specs.Walk.{NoWalk}
 use Rattle.ground.proofs.Logic.{true-or-false}
 use Rattle.ground.proofs.Walks.{place-eq}
 use Rattle.effort.specs.Net.{Trip}
-use Rattle.query.specs.Query.{Asked, Fits, Shut, cellsOf, startCell, goalCell, workSize, Distance, queryRows, Answered}
+use Rattle.query.specs.Query.{Asked, Shut, startCell, goalCell, workSize, Distance, queryRows, Answered}
+use Rattle.plan.specs.Plan.{Fits}
+use Rattle.chain.specs.Route.{cellsOf}
 use Rattle.query.specs.declared.Answer.{Answer}
 
 -- a row that did not give its number does not apply, and the rows after it decide

@@ -7,16 +7,16 @@ use native.Mathlib.Omega.{arith}
 use lib.ListN.{length}
 use Rattle.lengths.specs.Lengths.{lenOf}
 use Rattle.lengths.specs.declared.Length.{Length}
-use Rattle.plan.specs.Lists.{written}
+use Rattle.marks.specs.Lists.{written}
 use Rattle.search.specs.declared.Trip.{Trip}
 use Rattle.search.specs.Columns.{Next, Only}
-use Rattle.query.specs.Cells.{legs}
-use Rattle.query.specs.Chain.{Journey, Walked, cellsAt, Linked, Paved}
+use Rattle.line.specs.Cells.{legs}
+use Rattle.chain.specs.Chain.{Journey, Walked, cellsAt, Linked, Paved}
 use Rattle.query.specs.Answers.{Told, Retraced}
 use Rattle.query.specs.declared.Answer.{Answer}
-use Rattle.query.proofs.Backwards.{walked-kept}
+use Rattle.chain.proofs.Backwards.{walked-kept}
 use Rattle.query.proofs.Telling.{told-fits}
-use Rattle.query.proofs.Paving.{linked-route, linked-paved}
+use Rattle.chain.proofs.Paving.{linked-route, linked-paved}
 
 module _ {a : Journey} {C S E : List ℕ} {t : Trip} {W W′ : List ℕ} {l : Length} (k : Walked a C S E t W) (o : Only (t .k + 2) W Next W′) (n : Linked a C t W′ l)
     {effort : ℕ} {r : Answer} (route₀ : List ℕ) (told : Told (lenOf l) effort (length route₀) r) where

@@ -8,7 +8,7 @@ use native.Mathlib.Decide.{decLe}
 use native.Mathlib.Omega.{arith}
 use borrow.Author.Tests.{lt-ltb, le-ltb}
 use lib.ListN.{length, getD, drop, replicate, length-replicate, List·getD-eq-default}
-use Rattle.plan.specs.Lists.{written}
+use Rattle.marks.specs.Lists.{written}
 use Rattle.plan.specs.Plan.{Lists}
 use Rattle.effort.specs.Effort.{EffortFound, EffortLost}
 use Rattle.search.specs.declared.Trip.{Trip}
@@ -16,15 +16,15 @@ use Rattle.search.specs.Columns.{columnOf, Settled, Next, Only, Inside}
 use Rattle.search.specs.Chart.{chart}
 use Rattle.search.specs.Search.{labelsOf, Ready, Bounded, Run}
 use Rattle.search.proofs.Columns.{entry-inside, column-length, column-at}
-use Rattle.query.specs.Chain.{Journey, Walked}
+use Rattle.chain.specs.Chain.{Journey, Walked}
 use Rattle.query.specs.Prepared.{Empty, Prepared}
 use Rattle.query.specs.Answers.{Searchable, SearchAnswer, Retraced, Beyond}
 use Rattle.query.specs.declared.Answer.{Answer}
 use Rattle.query.proofs.Wiping.{zeroed-length, zeroed-rest}
-use Rattle.query.proofs.Fairness.{fair}
-use Rattle.query.proofs.Chains.{bounded}
-use Rattle.query.proofs.Efforts.{outcome-found, outcome-lost}
-use Rattle.query.proofs.Backwards.{run-walked}
+use Rattle.chain.proofs.Fairness.{fair}
+use Rattle.chain.proofs.Chains.{bounded}
+use Rattle.chain.proofs.Efforts.{outcome-found, outcome-lost}
+use Rattle.chain.proofs.Backwards.{run-walked}
 
 -- ---- a cleared work space
 -- the first entries are 0

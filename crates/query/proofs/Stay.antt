@@ -14,11 +14,11 @@ use Rattle.ground.specs.Walk.{Legal}
 use Rattle.ground.specs.Line.{diagonal-way, straight-way, line}
 use Rattle.effort.specs.Effort.{Far, EffortLost}
 use Rattle.effort.specs.Net.{Trip}
-use Rattle.query.specs.Cells.{after}
-use Rattle.query.specs.Route.{LineClear, RouteOf}
-use Rattle.query.specs.Query.{Asked, cellsOf, startCell, goalCell, Distance, Billed, Found, Answered, QueryOutcome}
+use Rattle.line.specs.Cells.{after}
+use Rattle.chain.specs.Route.{LineClear, RouteOf, cellsOf}
+use Rattle.query.specs.Query.{Asked, startCell, goalCell, Distance, Billed, Found, Answered, QueryOutcome}
 use Rattle.query.specs.declared.Answer.{Answer}
-use Rattle.query.proofs.Legal.{start-near}
+use Rattle.chain.proofs.Legal.{start-near}
 use Rattle.query.proofs.Passed.{passed, answered-late, trip-passed}
 
 -- the direct line of a place to itself has no step

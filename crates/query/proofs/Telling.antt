@@ -9,13 +9,13 @@ use Rattle.lengths.specs.Lengths.{Len}
 use Rattle.floor.specs.Board.{Place}
 use Rattle.ground.specs.Kind.{octile}
 use Rattle.ground.specs.Line.{line}
-use Rattle.plan.specs.Lists.{written}
-use Rattle.query.specs.Cells.{after, steps, Written}
-use Rattle.query.specs.Query.{cellsOf}
+use Rattle.marks.specs.Lists.{written}
+use Rattle.line.specs.Cells.{after, steps, Written}
+use Rattle.chain.specs.Route.{cellsOf}
 use Rattle.query.specs.Answers.{Told, LineAnswer}
 use Rattle.query.specs.declared.Answer.{Answer}
-use Rattle.query.proofs.Firsts.{steps-octile}
-use Rattle.query.proofs.Legs.{line-cells}
+use Rattle.line.proofs.Firsts.{steps-octile}
+use Rattle.line.proofs.Legs.{line-cells}
 
 -- what is said with 0 fits
 pub told-fits : {l : Len} {effort room : ℕ} {r : Answer} → Told l effort room r → r .code ≡ 0 → cellsOf l ≤ room

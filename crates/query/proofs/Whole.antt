@@ -12,14 +12,15 @@ use Rattle.floor.specs.Board.{Dir}
 use Rattle.floor.specs.Words.{board, placeOf}
 use Rattle.ground.specs.Kind.{walkers}
 use Rattle.ground.specs.Walk.{Walk, len}
-use Rattle.plan.specs.Lists.{written}
+use Rattle.marks.specs.Lists.{written}
 use Rattle.plan.specs.Rising.{In}
-use Rattle.plan.proofs.Selects.{written-long}
+use Rattle.marks.proofs.Selects.{written-long}
 use Rattle.effort.specs.Net.{Trip}
-use Rattle.query.specs.Cells.{after}
-use Rattle.query.specs.Query.{Asked, cellsOf, startCell, goalCell, QueryOutcome}
+use Rattle.line.specs.Cells.{after}
+use Rattle.query.specs.Query.{Asked, startCell, goalCell, QueryOutcome}
+use Rattle.chain.specs.Route.{cellsOf}
 use Rattle.query.specs.declared.Answer.{Answer}
-use Rattle.query.proofs.Legal.{route-legal, route-cells, route-ends, route-inside}
+use Rattle.chain.proofs.Legal.{route-legal, route-cells, route-ends, route-inside}
 use Rattle.query.proofs.Passed.{Passed, passed, trip-passed, done-room}
 
 module _ (a : Asked) where

@@ -9,13 +9,12 @@ use Rattle.floor.specs.Board.{Place, Free}
 use Rattle.floor.specs.Words.{Floor, board, placeOf}
 use Rattle.ground.specs.Kind.{octile}
 use Rattle.ground.specs.Line.{line}
-use Rattle.plan.specs.Lists.{written}
-use Rattle.plan.specs.Plan.{Lists}
+use Rattle.marks.specs.Lists.{written}
+use Rattle.plan.specs.Plan.{Lists, Fits}
 use Rattle.effort.specs.Effort.{Far, EffortFound, EffortLost}
-use Rattle.query.specs.Cells.{after}
-use Rattle.query.specs.Route.{LineClear, RouteOf}
-use Rattle.query.specs.Query.{Fits, cellsOf}
-use Rattle.query.specs.Chain.{Journey}
+use Rattle.line.specs.Cells.{after}
+use Rattle.chain.specs.Route.{LineClear, RouteOf, cellsOf}
+use Rattle.chain.specs.Chain.{Journey}
 use Rattle.query.specs.declared.Answer.{Answer}
 
 -- the numbers of a length, with its cells

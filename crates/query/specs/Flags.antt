@@ -4,7 +4,7 @@ use mathlib.Core.List.{List}
 use mathlib.Core.Logic.{_⊎_}
 use mathlib.Core.Path.{_≡_}
 use lib.ListN.{length, getD}
-use Rattle.plan.specs.Linking.{ShownIn, Seen, Sweepable}
+use Rattle.fields.specs.Fields.{ShownIn, Seen, Sweepable}
 use Rattle.search.specs.Columns.{columnOf, Only, Put}
 use Rattle.search.specs.Places.{indexOf, Ascending}
 

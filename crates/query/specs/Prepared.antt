@@ -4,14 +4,14 @@ use mathlib.Core.List.{List}
 use mathlib.Core.Logic.{_↔_}
 use mathlib.Core.Path.{_≡_}
 use lib.ListN.{length, getD, drop}
-use Rattle.plan.specs.Linking.{Seen}
+use Rattle.fields.specs.Fields.{Seen}
 use Rattle.plan.specs.Plan.{Lists}
 use Rattle.search.specs.Columns.{columnOf, Only}
 use Rattle.search.specs.Chart.{chart}
 use Rattle.search.specs.Search.{Blank}
 use Rattle.search.specs.declared.Trip.{Trip}
 use Rattle.query.specs.Flags.{Flag}
-use Rattle.query.specs.Charted.{Charted}
+use Rattle.chain.specs.Charted.{Charted}
 
 -- column c holds nothing
 abbrev pub Empty : ℕ → ℕ → List ℕ → Type 0

@@ -11,10 +11,10 @@ use Rattle.floor.specs.Refusals.{Refusal, refuse, FirstOf}
 use Rattle.floor.specs.Words.{floorRows, board, numberOf, placeOf}
 use Rattle.ground.specs.Kind.{walkers}
 use Rattle.ground.specs.Walk.{NoWalk}
-use Rattle.plan.specs.Lists.{written}
-use Rattle.plan.specs.Plan.{Lists, PlanOf}
+use Rattle.marks.specs.Lists.{written}
+use Rattle.plan.specs.Plan.{Lists, Fits}
 use Rattle.effort.specs.Effort.{Far, EffortFound, EffortLost}
-use Rattle.query.specs.Route.{LineClear, RouteOf}
+use Rattle.chain.specs.Route.{cellsOf, LineClear, RouteOf}
 use Rattle.query.specs.declared.Answer.{Answer}
 
 -- what is asked: a floor, its plan, start and goal by column and row, and the room lent
@@ -30,19 +30,9 @@ pub record Asked : Type 0 where
   pub route : List ℕ
   pub work : List ℕ
 
--- the lists are this floor's own plan, which is within its limits
-pub record Fits (w h : ℕ) (words : List ℕ) (p : Lists) : Type 0 where
-  pub own : PlanOf w h words p
-  pub few-corners : length (p .corners) ≤ 2048
-  pub few-arcs : length (p .neighbours) ≤ 32768
-
 -- a cell is outside or blocked
 abbrev pub Shut : ℕ → ℕ → List ℕ → ℕ → ℕ → Type 0
 Shut w h words x y = (w ≤ x) ⊎ ((h ≤ y) ⊎ (board w h words (at x y .x) (at x y .y) ≡ false))
-
--- how many cells a route of this length has
-abbrev pub cellsOf : Len → ℕ
-cellsOf l = l .straight + l .diagonal + 1
 
 module _ (a : Asked) where
   abbrev pub startCell : ℕ

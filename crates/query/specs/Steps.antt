@@ -11,10 +11,11 @@ use Rattle.floor.specs.Refusals.{Refusal, refuse, FirstOf}
 use Rattle.floor.specs.Words.{Floor, floorRows, board, placeOf}
 use Rattle.ground.specs.Kind.{walkers}
 use Rattle.ground.specs.Walk.{NoWalk}
-use Rattle.plan.specs.Lists.{written}
-use Rattle.plan.specs.Plan.{Lists}
+use Rattle.marks.specs.Lists.{written}
+use Rattle.plan.specs.Plan.{Lists, Fits}
 use Rattle.effort.specs.Effort.{EffortLost}
-use Rattle.query.specs.Query.{Asked, Fits, Shut, cellsOf, startCell, goalCell, workSize, Distance, Found, NoRoute, Written}
+use Rattle.query.specs.Query.{Asked, Shut, startCell, goalCell, workSize, Distance, Found, NoRoute, Written}
+use Rattle.chain.specs.Route.{cellsOf}
 use Rattle.query.specs.declared.Answer.{Answer}
 
 -- the rows 1, 2, 3 and 8

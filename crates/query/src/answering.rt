@@ -6,13 +6,11 @@ ghost use Rattle.lengths.specs.Lengths.{lenOf};
 ghost use Rattle.floor.specs.Board.{at};
 ghost use Rattle.floor.specs.Words.{numberOf};
 ghost use Rattle.search.specs.Columns.{Next, Only};
-ghost use Rattle.query.specs.Cells.{Cell};
-ghost use Rattle.query.specs.Chain.{Journey, Walked};
+ghost use Rattle.line.specs.Cells.{Cell};
+ghost use Rattle.chain.specs.Chain.{Journey, Walked};
 ghost use Rattle.query.specs.Steps.{Ready, LateOutcome};
 ghost use Rattle.query.specs.Answers.{Told, LineAnswer, Retraced, Searchable, SearchAnswer, Beyond};
 use super::Answer;
-use super::chain;
-use super::line;
 use super::preparing;
 use super::refusing;
 use lengths::Length;
@@ -64,11 +62,11 @@ fn retrace(
     ensures only { λ r. ⌜ Only (t .k + 2) (now (work .entry)) Next (now (work .exit)) ⌝ }
 {
     let walk = chain::link_back(corners, starts, neighbours, t, work);
-    let r = tell(walk, effort, route.len());
-    if r.code == 0 {
+    let told = tell(walk, effort, route.len());
+    if told.code == 0 {
         chain::write_route(corners, t, work, route);
     }
-    r
+    told
 }
 
 // The answer where the direct line is barred.

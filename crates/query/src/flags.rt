@@ -33,9 +33,9 @@ fn flag_field(
     requires ready { ⌜ Flaggable w h (now words) (now clear) (now corners) cell n column (now work) × (field < 8) ⌝ }
     ensures { λ r. ⌜ Flagging w h (now (words .entry)) (now (corners .entry)) cell n column (now (work .entry)) (now (work .exit)) × FieldFlagged w h (now (words .entry)) (now (corners .entry)) cell n column (now (work .exit)) field ⌝ }
 {
-    let mut s = plan::begin(cell % w, cell / w, field);
+    let mut s = fields::begin(cell % w, cell / w, field);
     while s.on {
-        s = plan::pass_row(words, w, h, clear, s);
+        s = fields::pass_row(words, w, h, clear, s);
         let shown = s.shown;
         flag_shown(corners, work, n, column, shown);
     }

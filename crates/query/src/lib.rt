@@ -3,9 +3,7 @@ ghost use Rattle.query.specs.Query.{QueryOutcome};
 ghost use Rattle.query.specs.Answers.{Refused};
 
 mod answering;
-mod chain;
 mod flags;
-mod line;
 mod preparing;
 mod refusing;
 

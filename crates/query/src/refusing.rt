@@ -6,7 +6,7 @@ ghost use Rattle.query.specs.Steps.{Judged, endRows};
 ghost use Prim.Native.Nat.{_≤_};
 ghost use mathlib.Core.Path.{_≡_};
 ghost use lib.ListN.{length, replicate};
-ghost use Rattle.plan.specs.Lists.{written};
+ghost use Rattle.marks.specs.Lists.{written};
 
 // 0, or the first of the refusals 1, 2, 3 and 8 that applies.
 pub fn plan_refusal(
@@ -24,7 +24,7 @@ pub fn plan_refusal(
     if bad != 0 {
         return bad;
     }
-    if plan::matches(words, w, h, clear, corners, starts, neighbours) {
+    if matching::matches(words, w, h, clear, corners, starts, neighbours) {
         0
     } else {
         8

@@ -21,10 +21,11 @@ use Rattle.ground.specs.Clearance.{Clearance}
 use Rattle.ground.specs.Certificate.{Claim, Certified, certifies}
 use Rattle.ground.proofs.Joined.{joined-iff-direct}
 use Rattle.ground.proofs.Certificate.{certifies-certified, certified-shortest, certified-none}
-use Rattle.plan.specs.Lists.{select}
-use Rattle.plan.specs.Plan.{ClearanceAt, LinkedCells}
-use Rattle.plan.proofs.Cells.{within}
-use Rattle.plan.proofs.Recurrence.{clearance-none, clearance-one, clearance-more}
+use Rattle.marks.specs.Lists.{select}
+use Rattle.marks.specs.Marks.{ClearanceAt}
+use Rattle.plan.specs.Plan.{LinkedCells}
+use Rattle.marks.proofs.Cells.{within}
+use Rattle.marks.proofs.Recurrence.{clearance-none, clearance-one, clearance-more}
 use Rattle.effort.specs.Effort.{PlaceCell, Far, NoLater, EffortFound, EffortLost}
 use Rattle.settling.specs.Counts.{Counts, empty, with, without}
 use Rattle.sums.specs.Drawing.{hall, bent, split, barred}

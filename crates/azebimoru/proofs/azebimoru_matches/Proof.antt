@@ -22,9 +22,8 @@ returns : tie.Need-returns
 returns c =
     let m = c .matches .ensures in
     record {
-      yes = λ e. let p = m .yes e in
-          record { floor = accepted _ _ _ (accepts (c .before)); own = p .0; few-corners = p .1 .0; few-arcs = p .1 .1 };
-      no = λ e o. m .no e (o .own, (o .few-corners, o .few-arcs));
+      yes = λ e. record { floor = accepted _ _ _ (accepts (c .before)); fits = m .yes e };
+      no = λ e o. m .no e (o .fits);
     }
 
 returns-2 : tie.Need-returns-2

@@ -1,6 +1,6 @@
 -- `plan::linking::link_field` meets its contract: the loop's invariant: what the rows passed show stands in its place. Assumes nothing.
 use Prim.Native.Nat.{_-_, _<_}
-use Rattle.plan.specs.Linking.{Sweepable}
+use Rattle.fields.specs.Fields.{Sweepable}
 use mathlib.Core.Bool.{cond}
 use mathlib.Core.Path.{_∙_}
 use borrow.Author.Needs.{needs}

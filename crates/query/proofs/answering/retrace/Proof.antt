@@ -5,8 +5,8 @@ use Rattle.query.proofs.answering.retrace.Tie as tie
 use Rattle.query.proofs.answering.retrace.Reads as reads
 use Rattle.query.proofs.answering.retrace.Lts as lts
 use Rattle.query.proofs.answering.tell.Reads as tell-reads
-use Rattle.query.proofs.chain.link_back.Reads as link-back-reads
-use Rattle.query.proofs.chain.write_route.Reads as write-route-reads
+use Rattle.chain.proofs.link_back.Reads as link-back-reads
+use Rattle.chain.proofs.write_route.Reads as write-route-reads
 
 link-back-requires : tie.Need-link-back-requires
 link-back-requires c κs = search needs

@@ -8,7 +8,7 @@ use lib.ListN.{getD}
 use Rattle.search.specs.Columns.{ByStart, ByGoal}
 use Rattle.query.specs.Prepared.{Empty}
 use Rattle.query.proofs.Charting.{flaggable, prepared}
-use Rattle.query.proofs.Corners.{corners-ascend}
+use Rattle.chain.proofs.Corners.{corners-ascend}
 use Rattle.query.proofs.preparing.prepare.Statement.{statement}
 use Rattle.query.proofs.preparing.prepare.Tie as tie
 

@@ -23,12 +23,11 @@ matches-requires c κs = accepted _ _ _ (accepts c)
 
 returns-2 : tie.Need-returns-2
 returns-2 c =
-    let p = c .before .matches .ensures .yes (c .if2 .taken) in
-    own-plan _ _ _ _ (accepts (c .before .before)) (record { own = p .0; few-corners = p .1 .0; few-arcs = p .1 .1 })
+    own-plan _ _ _ _ (accepts (c .before .before)) (c .before .matches .ensures .yes (c .if2 .taken))
 
 returns-3 : tie.Need-returns-3
 returns-3 c =
-    other-plan _ _ _ _ (accepts (c .before .before)) (λ f. c .before .matches .ensures .no (c .if2 .left) (f .own, (f .few-corners, f .few-arcs)))
+    other-plan _ _ _ _ (accepts (c .before .before)) (c .before .matches .ensures .no (c .if2 .left))
 
 pub plan-refusal-spec : {M : Type 1} → statement M
 plan-refusal-spec =

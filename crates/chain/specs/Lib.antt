@@ -1,0 +1,4 @@
+-- The definitions that the contracts cite.
+pub mod Route
+pub mod Charted
+pub mod Chain

@@ -1,0 +1,5 @@
+-- Laws that belong to no one function.
+pub mod Rays
+pub mod Aheads
+pub mod Sweeps
+pub mod Passes

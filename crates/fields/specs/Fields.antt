@@ -1,0 +1,134 @@
+-- The sweep that finds the turning points to which a place is linked (000, Algorithm 3, with its slip corrected): eight fields, each of a
+-- diagonal direction and a straight one beside it, row by row. These are states of code; proofs/ ties them to Definition 2.
+use Prim.Native.Nat.{ℕ, suc, _+_, _*_, _/_, _%_, _≤_, _<_}
+use mathlib.Core.Bool.{Bool, true, false, cond}
+use mathlib.Core.List.{List}
+use mathlib.Core.Logic.{_↔_}
+use mathlib.Core.Path.{_≡_}
+use lib.Dec.{ltb}
+use lib.ListN.{length, replicate}
+use Rattle.lengths.specs.Lengths.{gap}
+use Rattle.floor.specs.Board.{Board, Place, at, Free, Dir, dirAt, corner}
+use Rattle.floor.specs.Words.{board, placeOf, Floor}
+use Rattle.ground.specs.Kind.{walkers}
+use Rattle.ground.specs.Walk.{Legal}
+use Rattle.ground.specs.Rows.{cell, Rows}
+use Rattle.ground.specs.Clearance.{ahead}
+use Rattle.marks.specs.Marks.{Cleared}
+use Rattle.marks.specs.Marking.{cellOf}
+use Rattle.fields.specs.declared.Sweep.{Sweep}
+use Rattle.fields.specs.declared.RowEnd.{RowEnd}
+
+-- the numbers of a field's two directions: NE with N and E, SE with E and S, SW with S and W, NW with W and N
+abbrev pub slant : ℕ → ℕ
+slant f = 4 + f / 2
+
+abbrev pub side : ℕ → ℕ
+side f = (f / 2 + f % 2) % 4
+
+-- k steps in direction c from p are free and lead to no turning point
+pub record Open (B : Board) (c : Dir) (p : Place) (k : ℕ) : Type 0 where
+  pub free : (j : ℕ) → j ≤ k → Free B (ahead c j p)
+  pub plain : (j : ℕ) → 0 < j → j ≤ k → corner B (ahead c j p) ≡ false
+
+-- exactly the first `reach` steps are open in the first n rows of a field from s, of the steps that a floor can have: fewer than 255
+abbrev pub Opened : Board → Place → Dir → Dir → ℕ → ℕ → Type 0
+Opened B s d c n reach = (k : ℕ) → 0 < k → k < 255 → (k ≤ reach) ↔ ((i : ℕ) → i < n → Open B c (ahead d i s) k)
+
+-- the sweep of a field from s has come to row n: the ray so far is legal and has no turning point before row n, and exactly the first
+-- `reach` steps are open in all rows before
+pub record Come (B : Board) (s : Place) (d c : Dir) (n reach : ℕ) : Type 0 where
+  pub ray : Legal walkers B s (replicate n d)
+  pub plain : (i : ℕ) → 0 < i → i < n → corner B (ahead d i s) ≡ false
+  pub opened : Opened B s d c n reach
+
+-- row n of a field from s shows the turning point t
+pub record Shows (B : Board) (s : Place) (d c : Dir) (n : ℕ) (t : Place) : Type 0 where
+  pub k : ℕ
+  pub there : t ≡ cell s d c n k
+  pub some-way : 0 < n + k
+  pub rows : Rows B s d c n k
+  pub turns : corner B t ≡ true
+
+-- the same for the field with a number, of the cell that a sweep goes out from
+abbrev pub ShowsIn : ℕ → ℕ → List ℕ → ℕ → ℕ → ℕ → ℕ → Place → Type 0
+ShowsIn w h words sx sy f n t = Shows (board w h words) (at sx sy) (dirAt (slant f)) (dirAt (side f)) n t
+
+-- where a sweep that goes on stands: at the beginning of its row
+pub record Standing (w h : ℕ) (words : List ℕ) (s : Sweep) : Type 0 where
+  pub field-in : s .field < 8
+  pub column-in : s .x < w
+  pub row-in : s .y < h
+  pub few-rows : s .row < 255
+  pub there : at (s .x) (s .y) ≡ ahead (dirAt (slant (s .field))) (s .row) (at (s .sx) (s .sy))
+  pub come : Come (board w h words) (at (s .sx) (s .sy)) (dirAt (slant (s .field))) (dirAt (side (s .field))) (s .row) (s .reach)
+
+-- a sweep before its first row
+abbrev pub begun : ℕ → ℕ → ℕ → Sweep
+begun sx sy f = record { sx = sx; sy = sy; field = f; row = 0; x = sx; y = sy; reach = 255; shown = 0; on = true }
+
+-- a sweep that ended with its row
+abbrev pub ended : Sweep → ℕ → Sweep
+ended s shown = record { sx = s .sx; sy = s .sy; field = s .field; row = s .row + 1; x = s .x; y = s .y; reach = s .reach; shown = shown; on = false }
+
+-- what passing a row takes: a floor, its clearances, and a sweep that stands
+pub record NewRow (w h : ℕ) (words clear : List ℕ) (s : Sweep) : Type 0 where
+  pub floor : Floor w h words
+  pub long : 4 * (w * h) ≤ length clear
+  pub cleared : Cleared w h words clear
+  pub standing : Standing w h words s
+
+-- a number, if it is not 0, is one more than a cell that a sweep's row shows
+abbrev pub Said : ℕ → ℕ → List ℕ → Sweep → ℕ → Type 0
+Said w h words s shown =
+    (t : ℕ) → shown ≡ suc t → (t < w * h) × ShowsIn w h words (s .sx) (s .sy) (s .field) (s .row) (placeOf w t)
+
+-- and nothing else is shown by the row
+abbrev pub AllSaid : ℕ → ℕ → List ℕ → Sweep → ℕ → Type 0
+AllSaid w h words s shown =
+    (t : Place) → ShowsIn w h words (s .sx) (s .sy) (s .field) (s .row) t → shown ≡ suc (cellOf w t)
+
+-- a row was read: what it shows, and how many steps are open in it and all rows before
+pub record RowRead (w h : ℕ) (words : List ℕ) (s : Sweep) (r : RowEnd) : Type 0 where
+  pub said : Said w h words s (r .shown)
+  pub unsaid : AllSaid w h words s (r .shown)
+  pub opened : Opened (board w h words) (at (s .sx) (s .sy)) (dirAt (slant (s .field))) (dirAt (side (s .field))) (suc (s .row)) (r .reach)
+
+-- a sweep passed one row: what that row shows was said, and the sweep goes on to the next row, or no later row shows anything
+pub record PassedRow (w h : ℕ) (words : List ℕ) (s r : Sweep) : Type 0 where
+  pub same-column : r .sx ≡ s .sx
+  pub same-row : r .sy ≡ s .sy
+  pub same-field : r .field ≡ s .field
+  pub next-row : r .row ≡ suc (s .row)
+  pub said : Said w h words s (r .shown)
+  pub unsaid : AllSaid w h words s (r .shown)
+  pub goes-on : r .on ≡ true → Standing w h words r
+  pub ends : r .on ≡ false → (n : ℕ) (t : Place) → s .row < n → ¬ (ShowsIn w h words (s .sx) (s .sy) (s .field) n t)
+
+-- the number of a field, by whether it goes east, south, and along the rows
+abbrev pub fieldBy : Bool → Bool → Bool → ℕ
+fieldBy east south wide = cond east (cond south (cond wide 2 3) (cond wide 1 0)) (cond south (cond wide 5 4) (cond wide 6 7))
+
+-- the one field in which t can be shown from s
+unfoldable pub fieldTo : Place → Place → ℕ
+fieldTo s t = fieldBy (ltb (s .x) (t .x)) (ltb (s .y) (t .y)) (ltb (gap (s .y) (t .y)) (gap (s .x) (t .x)))
+
+module _ (w h : ℕ) (words : List ℕ) (s : ℕ) where
+  -- row n of field f from cell s shows cell t
+  abbrev pub ShownIn : ℕ → ℕ → ℕ → Type 0
+  ShownIn f n t = (t < w * h) × ShowsIn w h words (s % w) (s / w) f n (placeOf w t)
+
+  -- some row of some field from cell s shows cell t
+  pub record Seen (t : ℕ) : Type 0 where
+    pub field : ℕ
+    pub row : ℕ
+    pub field-in : field < 8
+    pub shown : ShownIn field row t
+
+  -- what a sweep from cell s takes
+  pub record Sweepable (clear : List ℕ) : Type 0 where
+    pub floor : Floor w h words
+    pub long : 4 * (w * h) ≤ length clear
+    pub cleared : Cleared w h words clear
+    pub cell-in : s < w * h
+    pub free : Free (board w h words) (placeOf w s)

@@ -1,0 +1,27 @@
+-- `marks::mark_one` meets its contract: what is written is what `clearance_by_next` ensures. Assumes nothing.
+use borrow.Author.Needs.{needs}
+use Rattle.marks.proofs.Cells.{column-in, row-in}
+use Rattle.marks.proofs.mark_one.Statement.{statement}
+use Rattle.marks.proofs.mark_one.Tie as tie
+
+clearance-by-next-requires : tie.Need-clearance-by-next-requires
+clearance-by-next-requires c κs =
+    let p = c .before .before .before .pre in
+    (p .0, (p .1 .0, (column-in _ _ _ (p .1 .1 .0), (row-in _ _ _ (p .1 .1 .0), p .1 .1 .1 .0))))
+
+returns : tie.Need-returns
+returns c = rw (c .clearance-by-next .ensures)
+
+pub mark-one-spec : {M : Type 1} → statement M
+mark-one-spec =
+    tie.close
+    (tie.spec
+    (search needs)
+    (search needs)
+    clearance-by-next-requires
+    (search needs)
+    (search needs)
+    (search needs)
+    (search needs)
+    (search needs)
+    returns)
