@@ -13,7 +13,7 @@ use Rattle.lengths.specs.Laws.{weight, le-or-lt, ≼-antisym}
 use Rattle.floor.specs.Words.{placeOf}
 use Rattle.ground.specs.Kind.{octile}
 use Rattle.plan.specs.Plan.{Lists}
-use Rattle.settling.specs.Chains.{Shortest}
+use Rattle.settling.specs.Chains.{Shortest, wholes}
 use Rattle.settling.specs.Order.{NoLater as Ranks}
 use Rattle.settling.specs.Labels.{Labels, SettledAt, Sound}
 use Rattle.settling.proofs.Back.{shortest-unique}
@@ -26,7 +26,7 @@ use Rattle.effort.proofs.Bridge.{far-small}
 use Rattle.effort.proofs.Search.{ranks-iff}
 use Rattle.effort.proofs.Before.{no-further, place-before, before-no-later}
 use Rattle.search.specs.Places.{apart}
-use Rattle.search.specs.Chart.{Chart, linkAt, linkCount, cell, wholes, net, order}
+use Rattle.search.specs.Chart.{Chart, linkAt, linkCount, cell, net, order}
 use Rattle.chain.specs.Route.{Before}
 use Rattle.chain.specs.Charted.{Charted, Used}
 use Rattle.chain.proofs.Places.{trip, cell-place, from-used, from-cell, to-used, to-cell, place-index, used-same}

@@ -7,7 +7,7 @@ use mathlib.Core.Option.{some}
 use mathlib.Core.Path.{_≡_, sym, _∙_, ap, subst}
 use Rattle.lengths.specs.Laws.{weight}
 use Rattle.plan.specs.Plan.{Lists}
-use Rattle.settling.specs.Chains.{Reachable, Shortest}
+use Rattle.settling.specs.Chains.{Reachable, Shortest, wholes}
 use Rattle.settling.specs.Order.{NoLater}
 use Rattle.settling.specs.Counts.{Counts, below}
 use Rattle.settling.specs.Effort.{InReach}
@@ -15,10 +15,10 @@ use Rattle.settling.specs.Labels.{Labels}
 use Rattle.settling.proofs.Instances.{nearest-no-later}
 use Rattle.settling.proofs.Tally.{counts-same}
 use Rattle.effort.specs.Effort.{PlaceCell, EffortFound, EffortLost}
-use Rattle.effort.specs.Net.{ℕ-lengths, by-cell, netOf}
+use Rattle.effort.specs.Net.{by-cell, netOf}
 use Rattle.effort.proofs.Bridge.{chain-place, shortest-far, reachable-iff, reachable-far, goal-place}
 use Rattle.effort.proofs.Search.{in-reach-iff}
-use Rattle.search.specs.Chart.{Chart, cell, wholes, net, order}
+use Rattle.search.specs.Chart.{Chart, cell, net, order}
 use Rattle.search.specs.Search.{Outcome}
 use Rattle.chain.specs.Charted.{Charted, Used}
 use Rattle.chain.proofs.Counting.{counts-onto}
@@ -41,8 +41,8 @@ module _ {w h : ℕ} {words : List ℕ} {p : Lists} {start goal : ℕ} {𝓒 : C
   -- To rank no later is the same by index and by cell.
   pub rank-same : (d e u v : ℕ) → NoLater (order 𝓒) d u e v ↔ NoLater by-cell d (cell 𝓒 u) e (cell 𝓒 v)
   rank-same d e u v = (
-    λ l. nearest-no-later ℕ-lengths (λ c. c) d e (cell 𝓒 u) (cell 𝓒 v) .1 (nearest-no-later wholes (cell 𝓒) d e u v .0 l),
-    λ l. nearest-no-later wholes (cell 𝓒) d e u v .1 (nearest-no-later ℕ-lengths (λ c. c) d e (cell 𝓒 u) (cell 𝓒 v) .0 l),
+    λ l. nearest-no-later wholes (λ c. c) d e (cell 𝓒 u) (cell 𝓒 v) .1 (nearest-no-later wholes (cell 𝓒) d e u v .0 l),
+    λ l. nearest-no-later wholes (cell 𝓒) d e u v .1 (nearest-no-later wholes (λ c. c) d e (cell 𝓒 u) (cell 𝓒 v) .0 l),
   )
 
   -- The places in reach of the goal are as many by index as by cell.

@@ -8,6 +8,7 @@ use mathlib.Core.Logic.{_⊎_, inl, inr, ⊎-elim, _↔_}
 use native.Mathlib.Nat.{le-of-eq}
 use Rattle.lengths.specs.Lengths.{Len, _≺_}
 use Rattle.lengths.specs.Laws.{weight, ≼-split, ≺→≼, ≺→not-≽}
+use Rattle.settling.specs.Chains.{wholes}
 use Rattle.settling.specs.Order.{NoLater as RanksNoLater}
 use Rattle.settling.specs.Labels.{Labels, SettledAt, WaitingAt, Sound, NoneAfter}
 use Rattle.settling.specs.Counts.{Counts, below}
@@ -17,7 +18,7 @@ use Rattle.settling.proofs.Effort.{Settled, effort-without-goal, effort-distinc
 use Rattle.settling.proofs.Instances.{nearest-no-later}
 use Rattle.settling.proofs.Tally.{counts-same}
 use Rattle.effort.specs.Effort.{PlaceCell, Far, NoLater, EffortFound, EffortLost}
-use Rattle.effort.specs.Net.{ℕ-lengths, by-cell, Trip, netOf}
+use Rattle.effort.specs.Net.{by-cell, Trip, netOf}
 use Rattle.effort.proofs.Bridge.{consistent, goal-place, chain-place, far-order, far-shortest, shortest-far, reachable-iff, reachable-far}
 
 module _ (w h : ℕ) (words : List ℕ) (start goal : ℕ) (trip : Trip w h words start goal) where
@@ -27,9 +28,9 @@ module _ (w h : ℕ) (words : List ℕ) (start goal : ℕ) (trip : Trip w h word
       RanksNoLater by-cell (weight l) v (weight far) goal ↔ ((l ≺ far) ⊎ ((l ≡ far) × (v ≤ goal)))
   ranks-iff v l far f k = (
     λ r.
-        let p = nearest-no-later ℕ-lengths (λ c. c) (weight l) (weight far) v goal .0 r in
+        let p = nearest-no-later wholes (λ c. c) (weight l) (weight far) v goal .0 r in
         ⊎-elim (λ e. inr (e, p .1 (le-of-eq (ap weight (sym e))))) inl (≼-split (far-order w h words start goal trip v goal f k .1 (p .0))),
-    λ c. nearest-no-later ℕ-lengths (λ x. x) (weight l) (weight far) v goal .1 (by c),
+    λ c. nearest-no-later wholes (λ x. x) (weight l) (weight far) v goal .1 (by c),
   )
     where
       by : (l ≺ far) ⊎ ((l ≡ far) × (v ≤ goal)) → (weight l ≤ weight far) × (weight far ≤ weight l → v ≤ goal)
@@ -55,7 +56,7 @@ module _ (w h : ℕ) (words : List ℕ) (start goal : ℕ) (trip : Trip w h word
     ),
   )
 
-  module _ (𝓢 : Labels ℕ-lengths) (ok : Sound (netOf w h words start goal) by-cell 𝓢) where
+  module _ (𝓢 : Labels wholes) (ok : Sound (netOf w h words start goal) by-cell 𝓢) where
     -- A settled cell is a place.
     pub settled-place : (v : ℕ) → 𝓢 .settled v ≡ true → PlaceCell w h words start goal v
     settled-place v t = let (d, e) = ok .has-label v t in chain-place w h words start goal trip (ok .labelled v d e)

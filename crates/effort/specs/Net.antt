@@ -1,43 +1,23 @@
 -- The places of a trip as a net on cell numbers, whose links are what Definition 2 joins: the net that a search settles (crate `settling`).
 -- Its lengths are whole numbers, which order the floor's lengths exactly where these have fewer than 80,782 diagonal steps.
 -- Assumes nothing.
-use Prim.Native.Nat.{ℕ, _+_, _*_, _<_, _≤_}
+use Prim.Native.Nat.{ℕ, _*_, _<_, _≤_}
 use mathlib.Core.List.{List}
 use mathlib.Core.Logic.{_≢_}
 use mathlib.Core.Path.{_≡_}
-use native.Mathlib.Nat.{add-zero, add-assoc, add-comm, le-refl, le-trans, le-antisymm}
-use native.Mathlib.Omega.{arith}
 use Rattle.lengths.specs.Lengths.{Len, _⊕_}
 use Rattle.lengths.specs.Laws.{weight}
 use Rattle.floor.specs.Board.{Free}
 use Rattle.floor.specs.Words.{board, placeOf}
 use Rattle.ground.specs.Kind.{walkers, octile}
 use Rattle.ground.specs.Link.{Direct}
-use Rattle.settling.specs.Chains.{Lengths, Net}
+use Rattle.settling.specs.Chains.{Net, wholes}
 use Rattle.settling.specs.Order.{Ranking, nearest}
 use Rattle.effort.specs.Effort.{PlaceCell, Far}
 
--- whole numbers as lengths
-abbrev pub ℕ-lengths : Lengths
-ℕ-lengths = record {
-  L = ℕ;
-  𝟎 = 0;
-  _⊕_ = _+_;
-  _≼_ = _≤_;
-  unit = add-zero;
-  assoc = add-assoc;
-  comm = add-comm;
-  same = le-refl;
-  trans = le-trans;
-  antisym = le-antisymm;
-  least = λ a. omega arith;
-  more = λ c h. omega arith;
-  less = λ c h. omega arith;
-}
-
 -- the nearest goes first, and of equal lengths the smaller cell number
-abbrev pub by-cell : Ranking ℕ-lengths
-by-cell = nearest ℕ-lengths (λ c. c)
+abbrev pub by-cell : Ranking wholes
+by-cell = nearest wholes (λ c. c)
 
 -- the weight of what two cells are apart
 abbrev pub apart : ℕ → ℕ → ℕ → ℕ
@@ -59,7 +39,7 @@ module _ (w h : ℕ) (words : List ℕ) (start goal : ℕ) where
     pub direct : Direct walkers (board w h words) (placeOf w u) (placeOf w v)
 
   -- the net of a trip
-  abbrev pub netOf : Net ℕ-lengths
+  abbrev pub netOf : Net wholes
   netOf = record { start = start; Link = Joined; weight = apart w }
 
   -- u is joined to v, m is its own shortest length, and m with what the two are apart is l: where l is v's shortest length, u stands right

@@ -10,12 +10,13 @@ use native.Mathlib.Decide.{decLt}
 use borrow.Author.Tests.{ltb-true, lt-ltb, le-ltb}
 use lib.Dec.{ltb}
 use lib.ListN.{length, getD, List·getD-eq-default}
+use Rattle.settling.specs.Chains.{wholes}
 use Rattle.settling.specs.Labels.{WaitingAt}
 use Rattle.settling.proofs.Instances.{nearest-no-later}
 use Rattle.search.specs.declared.Trip.{Trip}
 use Rattle.search.specs.Columns.{columnOf, Label, Tree, Settled}
 use Rattle.search.specs.Places.{cellOf}
-use Rattle.search.specs.Chart.{Chart, chart, cell, wholes}
+use Rattle.search.specs.Chart.{Chart, chart, cell}
 use Rattle.search.specs.Tree.{waitsAt, Ahead, Right, ranks, leaves}
 use Rattle.search.specs.Search.{read, labels, labelsOf}
 use Rattle.search.specs.Offers.{First}

@@ -12,7 +12,7 @@ use native.Mathlib.Omega.{arith}
 use native.Mathlib.Decide.{ℕ-discrete}
 use lib.ListN.{length, getD, set}
 use lib.Seq.{getD-set-same, getD-set-other}
-use Rattle.settling.specs.Chains.{Shortest}
+use Rattle.settling.specs.Chains.{Shortest, wholes}
 use Rattle.settling.specs.Order.{Consistent}
 use Rattle.settling.specs.Labels.{Labels, WaitingAt, First as Start, Step, Sound, NoneAfter}
 use Rattle.settling.specs.Counts.{Counts, with, without, below}
@@ -22,7 +22,7 @@ use Rattle.settling.proofs.Tally.{counts-none, counts-at-most, length-below}
 use Rattle.settling.proofs.Effort.{first-none-after, step-counts, none-after-unsettled, effort-without-goal, effort-distinct, settled-in-reach, none-tie}
 use Rattle.search.specs.declared.Trip.{Trip}
 use Rattle.search.specs.Columns.{columnOf, Label, Left}
-use Rattle.search.specs.Chart.{Chart, chart, Fair, wholes, net, order}
+use Rattle.search.specs.Chart.{Chart, chart, Fair, net, order}
 use Rattle.search.specs.Tree.{Right}
 use Rattle.search.specs.Search.{labelsOf, Ready, Foremost, Near, Settling, Blank, Bounded, Outcome, Run}
 use Rattle.search.specs.Offers.{Offer}

@@ -4,11 +4,9 @@ use mathlib.Core.Path.{_≡_}
 use mathlib.Core.Bool.{cond}
 use mathlib.Core.List.{List}
 use Prim.Native.Nat.{ℕ, _+_, _*_, _-_, _≤_, _<_}
-use native.Mathlib.Nat.{add-zero, add-assoc, add-comm, le-refl, le-trans, le-antisymm}
-use native.Mathlib.Omega.{arith}
 use lib.Dec.{ltb, eqb}
 use lib.ListN.{length, getD}
-use Rattle.settling.specs.Chains.{Lengths, Net}
+use Rattle.settling.specs.Chains.{Net, wholes}
 use Rattle.settling.specs.Order.{Ranking, nearest}
 use Rattle.search.specs.declared.Trip.{Trip}
 use Rattle.search.specs.Columns.{columnOf, ByStart, ByGoal}
@@ -97,24 +95,6 @@ module _ (𝓒 : Chart) where
     pub start-flags : (i : ℕ) → i < 𝓒 .trip .k → 0 < getD (𝓒 .by-start) i 0 → 𝓒 .trip .from ≡ 𝓒 .trip .k
     pub goal-flags : (i : ℕ) → i < 𝓒 .trip .k → 0 < getD (𝓒 .by-goal) i 0 → 𝓒 .trip .to ≡ 𝓒 .trip .k + 1
     pub differ : 𝓒 .trip .start ≡ 𝓒 .trip .goal → ⊥
-
--- Lengths are whole numbers.
-abbrev pub wholes : Lengths
-wholes = record {
-  L = ℕ;
-  𝟎 = 0;
-  _⊕_ = _+_;
-  _≼_ = _≤_;
-  unit = add-zero;
-  assoc = add-assoc;
-  comm = add-comm;
-  same = le-refl;
-  trans = le-trans;
-  antisym = le-antisymm;
-  least = λ a. omega arith;
-  more = λ c h. omega arith;
-  less = λ c h. omega arith;
-}
 
 -- The net: a link leads from u to v where one of u's links is one more than v, and is as long as the two cells are apart.
 abbrev pub net : Chart → Net wholes

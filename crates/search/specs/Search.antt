@@ -8,14 +8,14 @@ use mathlib.Core.Option.{Option, some, none}
 use Prim.Native.Nat.{ℕ, _+_, _-_, _*_, _≤_, _<_}
 use lib.Dec.{ltb}
 use lib.ListN.{length, getD, set}
-use Rattle.settling.specs.Chains.{Chain, Reachable, Shortest}
+use Rattle.settling.specs.Chains.{Chain, Reachable, Shortest, wholes}
 use Rattle.settling.specs.Order.{NoLater}
 use Rattle.settling.specs.Labels.{Labels, SettledAt, WaitingAt, Step, Sound}
 use Rattle.settling.specs.Counts.{Counts, below}
 use Rattle.settling.specs.Effort.{InReach}
 use Rattle.search.specs.declared.Trip.{Trip}
 use Rattle.search.specs.Columns.{columnOf, Label, Tree, Settled, Left}
-use Rattle.search.specs.Chart.{Chart, chart, Fair, wholes, net, order}
+use Rattle.search.specs.Chart.{Chart, chart, Fair, net, order}
 use Rattle.search.specs.Tree.{Right}
 
 -- A label is stored as one more than it is, and 0 stands for none.
