@@ -1,16 +1,16 @@
 -- What a floor's board says at a place whose column or row is outside, or inside: as the code tests it, by `x == 0` and `w < x`, and
 -- goes on, with `x - 1`. Assumes nothing.
-use Prim.Native.Nat.{ℕ, zero, suc, _+_, _-_, _*_, _<_, _≤_}
+use Prim.Native.Nat.{ℕ, zero, suc, _+_, _-_, _*_, _/_, _%_, _<_, _≤_}
 use mathlib.Core.Bool.{Bool, false, and-false}
 use mathlib.Core.List.{List, [], _∷_}
 use mathlib.Core.Path.{_≡_, refl}
 use native.Mathlib.Nat.{le-of-suc-le-suc, mul-le-mul-right, suc-mul}
 use native.Mathlib.Omega.{arith}
-use lib.ListN.{length, take, drop, length-take, length-drop}
+use lib.ListN.{length, getD, take, drop, length-take, length-drop}
 use borrow.Author.Tests.{lt-ltb, le-ltb}
 use Rattle.floor.specs.Board.{Padded}
 use Rattle.floor.specs.Window.{triple}
-use Rattle.floor.specs.Words.{bitFree, rowOf, rowWords, freeIn, board, IsRow}
+use Rattle.floor.specs.Words.{bitClear, bitFree, rowOf, rowWords, freeIn, board, OneWord, IsRow}
 
 module _ (w : ℕ) (row : List ℕ) where
   pub freeIn-zero : (x : ℕ) → x ≡ 0 → false ≡ freeIn w row x
@@ -56,6 +56,21 @@ triple-same f g x e = simp e
 pub triple-blocked : (f : ℕ → Bool) (x : ℕ) → ((i : ℕ) → false ≡ f i) → false ∷ false ∷ false ∷ [] ≡ triple f x
 unfolding triple
 triple-blocked f x e = triple-same (λ i. false) f x e
+
+-- three places of a row whose cells are bits of one word
+pub triple-in-word : (w : ℕ) (row : List ℕ) (x : ℕ) → 0 < x → OneWord w (x - 1) →
+    triple (bitClear (getD row ((x - 1) / 64) 0)) ((x - 1) % 64) ≡ triple (freeIn w row) x
+unfolding triple freeIn
+triple-in-word w row zero l o = absurd (omega arith)
+triple-in-word w row (suc a) l o =
+    let i = o .inside in
+    let t = o .together in
+    let e : suc a - 1 ≡ a = omega arith in
+    let d₁ : suc a / 64 ≡ a / 64 = omega arith in
+    let d₂ : suc (suc a) / 64 ≡ a / 64 = omega arith in
+    let m₁ : suc a % 64 ≡ suc (a % 64) = omega arith in
+    let m₂ : suc (suc a) % 64 ≡ suc (suc (a % 64)) = omega arith in
+    rw (e, lt-ltb a w (omega arith), lt-ltb (suc a) w (omega arith), lt-ltb (suc (suc a)) w (omega arith), d₁, d₂, m₁, m₂)
 
 -- row y ends within the words of h rows of n
 pub row-ends : (y h n : ℕ) → y < h → y * n + n ≤ h * n

@@ -5,7 +5,7 @@ ghost use lib.ListN.{length};
 ghost use Rattle.floor.specs.Board.{at, step, nook, corner, dirAt};
 ghost use Rattle.floor.specs.Window.{cells, triple, windowOf, InWindow};
 ghost use Rattle.floor.specs.Refusals.{FirstOf, Tells};
-ghost use Rattle.floor.specs.Words.{bitFree, freeIn, board, rowWords, Sized, IsRow, SizeRefused, RestClear, UnusedClear, floorRows, clearBits};
+ghost use Rattle.floor.specs.Words.{bitClear, bitFree, OneWord, freeIn, board, rowWords, Sized, IsRow, SizeRefused, RestClear, UnusedClear, floorRows, clearBits};
 
 // The eight directions N, E, S, W, NE, SE, SW, NW, each as its offsets of column and row. North is smaller y.
 pub const DIRECTIONS: [[i32; 2]; 8] = [
@@ -98,11 +98,37 @@ fn free_in(row: &[u64], w: usize, x: usize) -> bool
     cell_free(row, x - 1)
 }
 
-// Three places of a row from padded column x on.
+// Three neighbouring bits of a word, from bit s on, are 0.
+fn three_bits(word: u64, s: usize) -> [bool; 3]
+    requires { ⌜ s < 62 ⌝ }
+    ensures { λ r. ⌜ r ≡ triple (bitClear word) s ⌝ }
+{
+    [
+        (word >> s) % 2 == 0,
+        (word >> (s + 1)) % 2 == 0,
+        (word >> (s + 2)) % 2 == 0,
+    ]
+}
+
+// The cells a, a + 1 and a + 2 of a row of w cells are three bits of one word.
+fn in_one_word(w: usize, a: usize) -> bool
+    requires { ⌜ a ≤ 255 ⌝ }
+    ensures { λ r. ⌜ Tells (OneWord w a) r ⌝ }
+{
+    if a + 2 < w { a % 64 < 62 } else { false }
+}
+
+// Three places of a row from padded column x on. Most are bits of one word, which is read once.
 fn three_in(row: &[u64], w: usize, x: usize) -> [bool; 3]
     requires { ⌜ (w ≤ 64 * length (now row)) × (x ≤ 255) ⌝ }
     ensures { λ r. ⌜ r ≡ triple (freeIn w (now (row .entry))) x ⌝ }
 {
+    if 0 < x {
+        let a = x - 1;
+        if in_one_word(w, a) {
+            return three_bits(row[a / 64], a % 64);
+        }
+    }
     [
         free_in(row, w, x),
         free_in(row, w, x + 1),
@@ -119,6 +145,20 @@ pub fn row_of(words: &[u64], w: usize, h: usize, y: usize) -> &[u64]
     let a = y * n;
     let e = a + n;
     &words[a..e]
+}
+
+// The place at column x and row y, both padded, is free.
+pub fn free_at(words: &[u64], w: usize, h: usize, x: usize, y: usize) -> bool
+    requires { ⌜ Sized w h (now words) ⌝ }
+    ensures { λ r. ⌜ r ≡ board w h (now (words .entry)) x y ⌝ }
+{
+    if y == 0 {
+        return false;
+    }
+    if h < y {
+        return false;
+    }
+    free_in(row_of(words, w, h, y - 1), w, x)
 }
 
 // Three places of the floor from column x on, in row y, both padded.

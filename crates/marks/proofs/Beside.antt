@@ -1,4 +1,4 @@
--- The place beside a cell, as code finds it: by the window round the cell, and by what the table adds to its column and row. Assumes nothing.
+-- The place beside a cell, as code finds it: by what the table adds to its column and row. Assumes nothing.
 use Prim.Native.Nat.{ℕ, suc, _+_, _-_, _≤_, _<_}
 use mathlib.Core.Bool.{Bool, false}
 use mathlib.Core.List.{List, []}
@@ -12,29 +12,12 @@ use Rattle.ground.specs.Within.{Within}
 use Rattle.ground.proofs.Cells.{column-inside, row-inside}
 use Rattle.ground.proofs.Walks.{place-eq}
 
--- the neighbour's place in a row of a window
-in-triple : (o : Offset) (f : ℕ → Bool) (x : ℕ) → getD (triple f x) (shift o 1) false ≡ f (shift o (suc x))
-unfolding triple
-in-triple less f x = refl
-in-triple same f x = refl
-in-triple more f x = refl
-
--- and its row
-in-rows : (o : Offset) (B : Board) (x y : ℕ) → getD (windowOf B x y) (shift o 1) [] ≡ triple (λ i. B i (shift o (suc y))) x
-unfolding windowOf
-in-rows less B x y = refl
-in-rows same B x y = refl
-in-rows more B x y = refl
-
-module _ (B : Board) (x y : ℕ) (win : List (List Bool)) (e : win ≡ windowOf B x y) where
-  -- the middle of the window is the cell
-  pub middle : cells win 1 1 ≡ B (suc x) (suc y)
-  unfolding windowOf triple
-  middle = rw e
-
-  -- and what stands beside it the neighbour
-  pub beside : (d : Dir) (o : List ℕ) → InWindow d o → cells win (getD o 0 0) (getD o 1 0) ≡ B (go d (at x y) .x) (go d (at x y) .y)
-  beside d o t = rw (e, t .column, t .row, in-rows, in-triple)
+-- the neighbour's column and row, as code finds them
+pub beside : (d : Dir) (x y : ℕ) (o : List ℕ) → InWindow d o → (B : Board) → B (x + getD o 0 0) (y + getD o 1 0) ≡ B (go d (at x y) .x) (go d (at x y) .y)
+beside d x y o t B =
+    let column : shift (dx d) (suc x) ≡ x + getD o 0 0 = shift-offset (dx d) x ∙ rw (t .column) in
+    let row : shift (dy d) (suc y) ≡ y + getD o 1 0 = shift-offset (dy d) y ∙ rw (t .row) in
+    rw (column, row)
 
 -- the cell that code takes for the neighbour of (x, y)
 pub record Neighbour (w h : ℕ) (d : Dir) (x y i j : ℕ) : Type 0 where

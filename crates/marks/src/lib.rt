@@ -72,11 +72,10 @@ fn clearance_by_next(
     requires { ⌜ Floor w h (now words) × ((4 * (w * h) ≤ length (now clear)) × ((x < w) × ((y < h) × (dir < 4)))) ⌝ }
     ensures { λ r. ⌜ r ≡ byNext (board w h (now (words .entry))) w (now (clear .entry)) (at x y) dir ⌝ }
 {
-    let win = floor::window(words, w, h, x, y);
     let o = floor::in_window(dir);
     let i = o[0];
     let j = o[1];
-    if floor::cell(win, 1, 1) & floor::cell(win, i, j) {
+    if floor::free_at(words, w, h, x + 1, y + 1) & floor::free_at(words, w, h, x + i, y + j) {
         let nx = x + i - 1;
         let ny = y + j - 1;
         if floor::corner_at(words, w, h, nx, ny) {

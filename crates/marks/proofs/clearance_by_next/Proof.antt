@@ -1,8 +1,9 @@
--- `marks::clearance_by_next` meets its contract: the window shows the cell and the next place, and where both are free the code reads
+-- `marks::clearance_by_next` meets its contract: the cell and the next place are looked at, and where both are free the code reads
 -- the next place's turning point and entry. Assumes nothing.
 use Prim.Native.Nat.{_+_, _-_, _*_}
 use mathlib.Core.Bool.{_&&_}
 use mathlib.Core.Path.{_≡_, sym, ap, ap₂, _∙_}
+use native.Mathlib.Numerals.{add-one}
 use native.Mathlib.Omega.{arith}
 use denote.Ref.{now}
 use borrow.Author.Needs.{needs}
@@ -13,38 +14,39 @@ use Rattle.ground.proofs.Logic.{and-left, and-right}
 use Rattle.marks.specs.Marking.{entryAt}
 use Rattle.marks.proofs.Cells.{within, number-in}
 use Rattle.marks.proofs.Recurrence.{next-none, next-corner, next-more}
-use Rattle.marks.proofs.Beside.{middle, beside, Neighbour, neighbour}
+use Rattle.marks.proofs.Beside.{beside, Neighbour, neighbour}
 use Rattle.marks.proofs.clearance_by_next.Statement.{statement}
 use Rattle.marks.proofs.clearance_by_next.Tie as tie
 
 -- the function's entry
-abbrev entry : tie.After-cell2 → tie.Start
-entry c = c .before .before .before .before .before .before
+abbrev entry : tie.After-free-at2 → tie.Start
+entry c = c .before .before .before .before .before
 
 -- the board, the cell's place, and the next place in the direction
-abbrev floor : tie.After-cell2 → Board
+abbrev floor : tie.After-free-at2 → Board
 floor c = board (entry c .args .w) (entry c .args .h) (now (entry c .args .words))
 
-abbrev this : tie.After-cell2 → Place
+abbrev this : tie.After-free-at2 → Place
 this c = at (entry c .args .x) (entry c .args .y)
 
-abbrev that : tie.After-cell2 → Place
+abbrev that : tie.After-free-at2 → Place
 that c = go (dirAt (entry c .args .dir)) (this c)
 
 -- the two tests look at the two places
-first-test : (c : tie.After-cell2) → c .before .cell .result ≡ floor c (this c .x) (this c .y)
-first-test c = c .before .cell .ensures ∙ middle _ _ _ _ (c .before .before .before .window .ensures)
+first-test : (c : tie.After-free-at2) → c .before .free-at .result ≡ floor c (this c .x) (this c .y)
+first-test c = let a = entry c .args in rw (add-one (a .x), add-one (a .y)) at (c .before .free-at .ensures)
 
-second-test : (c : tie.After-cell2) → c .cell2 .result ≡ floor c (that c .x) (that c .y)
+second-test : (c : tie.After-free-at2) → c .free-at2 .result ≡ floor c (that c .x) (that c .y)
 second-test c =
-    c .cell2 .ensures ∙ beside _ _ _ _ (c .before .before .before .window .ensures) _ _ (c .before .before .in-window .ensures)
+    let a = entry c .args in
+    c .free-at2 .ensures ∙ beside (dirAt (a .dir)) (a .x) (a .y) (c .before .before .in-window .result) (c .before .before .in-window .ensures) (floor c)
 
 -- so where they pass both are free
 this-free : (c : tie.Then1) → Free (floor (c .before)) (this (c .before))
 this-free c = sym (first-test (c .before)) ∙ and-left _ _ (c .if1 .taken)
 
 that-free : (c : tie.Then1) → Free (floor (c .before)) (that (c .before))
-that-free c = sym (second-test (c .before)) ∙ and-right (c .before .before .cell .result) _ (c .if1 .taken)
+that-free c = sym (second-test (c .before)) ∙ and-right (c .before .before .free-at .result) _ (c .if1 .taken)
 
 -- and the code's column and row are those of the next place
 next : (c : tie.Then1) →
@@ -69,7 +71,7 @@ add-result c =
     let s = c .before .before .before .before in
     let a = entry s .args in
     let o = s .before .before .in-window .result in
-    let k = s .before .before .before .before .shared-slice-known2 .given (4 * numberOf (a .w) (a .x + getD o 0 0 - 1) (a .y + getD o 1 0 - 1) + a .dir) in
+    let k = s .before .before .before .shared-slice-known2 .given (4 * numberOf (a .w) (a .x + getD o 0 0 - 1) (a .y + getD o 1 0 - 1) + a .dir) in
     omega (arith, c .clearance .ensures, k)
 
 -- the third test looks at the next place
@@ -96,6 +98,9 @@ pub clearance-by-next-spec : {M : Type 1} → statement M
 clearance-by-next-spec =
     tie.close
     (tie.spec
+    (search needs)
+    (search needs)
+    (search needs)
     (search needs)
     (search needs)
     (search needs)

@@ -1,0 +1,29 @@
+//! How fast the library is beside independent programs in Rust, in one process and one run. It prints ratios and
+//! judges nothing: README.md says what they mean and what is aimed at.
+#[allow(dead_code)]
+#[path = "../../tests/src/chance.rs"]
+mod chance;
+mod clock;
+#[allow(dead_code)]
+#[path = "../../tests/src/face.rs"]
+mod face;
+#[allow(dead_code)]
+#[path = "../../tests/src/oracle/floor.rs"]
+mod floor;
+#[allow(dead_code)]
+#[path = "../../tests/src/floors.rs"]
+mod floors;
+mod lent;
+mod plans;
+mod queries;
+mod rivals;
+
+/// The floors of the tests name theirs by this path.
+mod oracle {
+    pub(crate) use crate::floor;
+}
+
+fn main() {
+    plans::report();
+    queries::report();
+}

@@ -1,0 +1,102 @@
+//! One query beside independent searches: over the cells, toward the goal, and over links.
+use crate::chance::Chance;
+use crate::clock::{self, median};
+use crate::floors::{self, Kind};
+use crate::lent::Lent;
+use crate::rivals::cells::CellSearch;
+use crate::rivals::links::LinkSearch;
+use crate::rivals::survey::Surveyor;
+use crate::rivals::Found;
+
+const KINDS: [(&str, Kind, &str); 3] = [
+    ("rooms of side 16", Kind::Rooms(16), "20"),
+    ("rooms of side 7", Kind::Rooms(7), "8"),
+    ("pillars on 3 percent", Kind::Pillars(3), "2"),
+];
+
+/// Queries on each floor; so many of them are timed at once, and so often.
+const QUERIES: usize = 2_000;
+const BATCH: usize = 25;
+const ROUNDS: usize = 3;
+
+/// A floor with all who answer queries on it.
+struct Site {
+    lent: Lent,
+    cells: CellSearch,
+    links: LinkSearch,
+    free: Vec<usize>,
+}
+
+impl Site {
+    /// The first floor of 128 × 128 of a kind that the survey accepts.
+    fn of(kind: Kind, chance: &mut Chance) -> Site {
+        loop {
+            let floor = floors::make(kind, 128, 128, chance);
+            if let Some(lent) = Lent::of(&floor) {
+                let mut surveyor = Surveyor::default();
+                surveyor.survey(lent.w, lent.h, &lent.words);
+                let cells = CellSearch::of(&surveyor.grid);
+                return Site { lent, cells, links: LinkSearch::of(surveyor), free: floor.free_cells() };
+            }
+        }
+    }
+
+    /// All must find the same length, and the search over links also the same route with the same effort.
+    fn agree(&mut self, start: usize, goal: usize) {
+        let [code, straight, diagonal, cells, effort] = self.lent.query(start, goal);
+        let length = (code == 0).then_some((straight, diagonal));
+        assert_eq!(self.links.query(start, goal), Found { length, settled: effort });
+        assert!(code != 0 || self.links.route == self.lent.route[..cells as usize], "another route");
+        assert_eq!(self.cells.nearest_first(start, goal).length, length);
+        assert_eq!(self.cells.toward_goal(start, goal).length, length);
+        assert_eq!(self.lent.checks(start, goal), [11, 0, 0, 0, 0]);
+    }
+
+    /// The times for a batch: of the queries, of their part after the checks, and of the three searches. A query checks
+    /// the plan each time, which takes longer than all the rest. So next to each query stands the same one with a work
+    /// entry too few, which ends after the checks, and the difference is the rest.
+    fn race(&mut self, batch: &[(usize, usize)]) -> [f64; 5] {
+        let mut times = vec![Vec::new(); 5];
+        for _ in 0..ROUNDS {
+            let (mut whole, mut checks) = (0.0, 0.0);
+            for query in batch.chunks(1) {
+                whole += clock::time(|| clock::each(query, |(s, g)| self.lent.query(s, g)));
+                checks += clock::time(|| clock::each(query, |(s, g)| self.lent.checks(s, g)));
+            }
+            let nearest = clock::time(|| clock::each(batch, |(s, g)| self.cells.nearest_first(s, g)));
+            let toward = clock::time(|| clock::each(batch, |(s, g)| self.cells.toward_goal(s, g)));
+            let links = clock::time(|| clock::each(batch, |(s, g)| self.links.query(s, g)));
+            for (times, time) in times.iter_mut().zip([whole, whole - checks, nearest, toward, links]) {
+                times.push(time);
+            }
+        }
+        std::array::from_fn(|at| median(&times[at]))
+    }
+}
+
+pub fn report() {
+    println!("A query on floors of 128 x 128, {QUERIES} random ones: how many times as fast as the searches over cells,");
+    println!("and as a multiple of the independent search over links (aim: at most 2.0). In brackets with its checks.");
+    let heads = ["floor", "aim", "nearest first", "toward goal", "links"];
+    println!("{:20} {:>7}  {:>18} {:>18} {:>18}", heads[0], heads[1], heads[2], heads[3], heads[4]);
+    let mut chance = Chance::new(2);
+    for (name, kind, aim) in KINDS {
+        let mut site = Site::of(kind, &mut chance);
+        let queries: Vec<(usize, usize)> =
+            (0..QUERIES).map(|_| (chance.pick(&site.free), chance.pick(&site.free))).collect();
+        queries.iter().for_each(|&(start, goal)| site.agree(start, goal));
+        let mut sums = [0.0; 5];
+        for batch in queries.chunks(BATCH) {
+            sums.iter_mut().zip(site.race(batch)).for_each(|(sum, time)| *sum += time);
+        }
+        let [whole, after, nearest, toward, links] = sums;
+        let both = |after: f64, whole: f64| format!("{after:.2} [{whole:.3}]");
+        println!(
+            "{name:20} {:>7}  {:>18} {:>18} {:>18}",
+            format!(">= {aim}"),
+            both(nearest / after, nearest / whole),
+            both(toward / after, toward / whole),
+            both(after / links, whole / links),
+        );
+    }
+}

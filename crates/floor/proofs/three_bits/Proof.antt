@@ -1,0 +1,21 @@
+-- `floor::three_bits` meets its contract: each is read by its own shift. Assumes nothing.
+use borrow.Author.Needs.{needs}
+use native.Mathlib.Numerals.{add-one, add-two}
+use Rattle.floor.specs.Window.{triple}
+use Rattle.floor.proofs.three_bits.Statement.{statement}
+use Rattle.floor.proofs.three_bits.Tie as tie
+
+returns : tie.Need-returns
+unfolding triple
+returns c = rw (add-one (c .args .s), add-two (c .args .s))
+
+pub three-bits-spec : {M : Type 1} → statement M
+three-bits-spec =
+    tie.close
+    (tie.spec
+    (search needs)
+    (search needs)
+    (search needs)
+    (search needs)
+    (search needs)
+    returns)

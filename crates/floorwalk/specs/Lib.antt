@@ -1,0 +1,4 @@
+-- The definitions that the contracts cite.
+pub mod Replies
+pub mod Openings
+pub mod Listing
