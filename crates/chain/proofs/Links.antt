@@ -2,7 +2,7 @@
 use Prim.Native.Nat.{ℕ, suc, _+_, _-_, _≤_, _<_}
 use mathlib.Core.Bool.{Bool, true, false, cond}
 use mathlib.Core.List.{List}
-use mathlib.Core.Logic.{_⊎_, inl, inr, ⊎-elim, _≢_, _↔_}
+use mathlib.Core.Logic.{_⊎_, inl, inr, ⊎-elim, _≢_}
 use mathlib.Core.Path.{_≡_, refl, sym, _∙_, ap, subst, subst₂}
 use native.Mathlib.Numerals.{add-one}
 use native.Mathlib.Omega.{arith}
@@ -263,10 +263,6 @@ module _ {w h : ℕ} {words : List ℕ} {p : Lists} {start goal : ℕ} {𝓒 : C
       (never-direct
       (subst₂ (λ (x y : ℕ). DirectCells w h words x y) (ap (cell 𝓒) i ∙ cell-start ch) (ap (cell 𝓒) e ∙ cell-goal ch) (joined-turned k .direct)))
   link-back u v (inr (inr (e, own))) (inr (inr (i, o))) k = absurd (k .two (ap (cell 𝓒) (e ∙ sym i)))
-
-  -- So links of places are the same by index and by cell.
-  pub link-iff : (u v : ℕ) → Used 𝓒 u → net 𝓒 .Link u v ↔ (Used 𝓒 v × Joined w h words start goal (cell 𝓒 u) (cell 𝓒 v))
-  link-iff u v a = (link-there u v, λ (b, k). link-back u v a b k)
 
   -- Links lead both ways.
   pub link-turned : (u v : ℕ) → Used 𝓒 u → net 𝓒 .Link u v → net 𝓒 .Link v u

@@ -72,10 +72,6 @@ module _ (w h : ℕ) (words : List ℕ) (start goal : ℕ) (trip : Trip w h word
         less : weight m < weight l
         less = plain (weight m) (apart w u v) (weight l) some weighs
 
-    -- It ranks no later than v does.
-    pub before-ranks : NoLater w h words start v l u
-    before-ranks = record { far = m; shortest = b .far; ranks = inl before-nearer }
-
     -- So where v ranks no later than the goal, the place before it does.
     pub before-no-later : {g : Len} → NoLater w h words start goal g v → NoLater w h words start goal g u
     before-no-later {g} n =

@@ -171,10 +171,6 @@ module _ (w h : ℕ) (words : List ℕ) (start goal : ℕ) (trip : Trip w h word
     λ s. let (m, f, e) = shortest-far s in subst (λ (x : Len). Far w h words start goal v x) (same-weight (far-small v f) small e) f,
   )
 
-  -- Shortest lengths of one weight are the same length.
-  pub far-same : (u v : ℕ) {l m : Len} → Far w h words start goal u l → Far w h words start goal v m → weight l ≡ weight m → l ≡ m
-  far-same u v f k = same-weight (far-small u f) (far-small v k)
-
   -- They are ordered as their weights are.
   pub far-order : (u v : ℕ) {l m : Len} → Far w h words start goal u l → Far w h words start goal v m → l ≼ m ↔ weight l ≤ weight m
   far-order u v f k = (weighs-≼ (far-small u f), ≼-by-weight (far-small v k))

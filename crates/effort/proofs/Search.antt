@@ -1,8 +1,7 @@
 -- What a search over a trip's net has settled is what the trip is billed for.
 -- Assumes nothing.
-use Prim.Native.Nat.{ℕ, _*_, _≤_}
-use mathlib.Core.Path.{_≡_, sym, _∙_, ap, subst}
-use mathlib.Core.Bool.{true, false, true≢false}
+use Prim.Native.Nat.{ℕ, _≤_}
+use mathlib.Core.Path.{_≡_, sym, ap, subst}
 use mathlib.Core.List.{List}
 use mathlib.Core.Logic.{_⊎_, inl, inr, ⊎-elim, _↔_}
 use native.Mathlib.Nat.{le-of-eq}
@@ -10,16 +9,11 @@ use Rattle.lengths.specs.Lengths.{Len, _≺_}
 use Rattle.lengths.specs.Laws.{weight, ≼-split, ≺→≼, ≺→not-≽}
 use Rattle.settling.specs.Chains.{wholes}
 use Rattle.settling.specs.Order.{NoLater as RanksNoLater}
-use Rattle.settling.specs.Labels.{Labels, SettledAt, WaitingAt, Sound, NoneAfter}
-use Rattle.settling.specs.Counts.{Counts, below}
 use Rattle.settling.specs.Effort.{InReach}
-use Rattle.settling.proofs.Search.{settled-shortest, settled-reachable}
-use Rattle.settling.proofs.Effort.{Settled, effort-without-goal, effort-distinct}
 use Rattle.settling.proofs.Instances.{nearest-no-later}
-use Rattle.settling.proofs.Tally.{counts-same}
-use Rattle.effort.specs.Effort.{PlaceCell, Far, NoLater, EffortFound, EffortLost}
+use Rattle.effort.specs.Effort.{PlaceCell, Far, NoLater}
 use Rattle.effort.specs.Net.{by-cell, Trip, netOf}
-use Rattle.effort.proofs.Bridge.{consistent, goal-place, chain-place, far-order, far-shortest, shortest-far, reachable-iff, reachable-far}
+use Rattle.effort.proofs.Bridge.{chain-place, far-order, far-shortest, shortest-far}
 
 module _ (w h : ℕ) (words : List ℕ) (start goal : ℕ) (trip : Trip w h words start goal) where
   -- To rank no later by weights is to rank no later by lengths.
@@ -55,41 +49,3 @@ module _ (w h : ℕ) (words : List ℕ) (start goal : ℕ) (trip : Trip w h word
       ranks-iff v (n .far) far (n .shortest) k .1 (n .ranks),
     ),
   )
-
-  module _ (𝓢 : Labels wholes) (ok : Sound (netOf w h words start goal) by-cell 𝓢) where
-    -- A settled cell is a place.
-    pub settled-place : (v : ℕ) → 𝓢 .settled v ≡ true → PlaceCell w h words start goal v
-    settled-place v t = let (d, e) = ok .has-label v t in chain-place w h words start goal trip (ok .labelled v d e)
-
-    -- Its label is the weight of its shortest length.
-    pub settled-far : {v d : ℕ} → SettledAt 𝓢 v d → (l : Len) × Far w h words start goal v l × (weight l ≡ d)
-    settled-far s =
-        shortest-far w h words start goal trip
-        (settled-shortest (netOf w h words start goal) by-cell (consistent w h words start goal) 𝓢 ok s)
-
-    module _ (m : ℕ) (effort : Counts (Settled 𝓢) (below (w * h)) m) where
-      -- Where the goal is settled and none after it, the number of settled cells is the effort.
-      pub effort-found :
-          (g : ℕ) → SettledAt 𝓢 goal g → NoneAfter (netOf w h words start goal) by-cell 𝓢 goal →
-          (e : EffortFound w h words start goal m) × (weight (e .far) ≡ g)
-      effort-found g s none =
-          let (far, f, q) = settled-far s in
-          let count : Counts (InReach (netOf w h words start goal) by-cell goal g) (below (w * h)) m =
-          effort-distinct (netOf w h words start goal) by-cell (consistent w h words start goal) 𝓢 ok (w * h) m effort goal g s none (λ x y a b e. e) in
-          let count′ = subst (λ (x : ℕ). Counts (InReach (netOf w h words start goal) by-cell goal x) (below (w * h)) m) (sym q) count in
-          (record { far = far; shortest = f; counted = counts-same (in-reach-iff far f) count′ }, q)
-
-      -- Where nothing waits and the goal is not settled, no walk leads to it, and the number of settled cells is the effort.
-      pub effort-lost : 𝓢 .settled goal ≡ false → ((v d : ℕ) → WaitingAt 𝓢 v d → ⊥) → EffortLost w h words start goal m
-      effort-lost unsettled none = record {
-        none =
-            λ ds a.
-            true≢false
-            (sym
-            (settled-reachable (netOf w h words start goal) by-cell (consistent w h words start goal) 𝓢 ok none goal .1
-            (reachable-iff w h words start goal trip goal .1 (goal-place w h words start goal trip, (ds, a))))
-            ∙ unsettled);
-        counted =
-            counts-same (reachable-far w h words start goal trip)
-            (effort-without-goal (netOf w h words start goal) by-cell (consistent w h words start goal) 𝓢 ok (w * h) m effort none);
-      }

@@ -36,3 +36,10 @@ missing n = record { yes = λ e. absurd (true≢false (sym e)); no = λ e. n }
 pub not-so : (b : Bool) → ¬ (b ≡ true) → b ≡ false
 not-so true n = absurd (n refl)
 not-so false n = refl
+
+-- a test's answer is one, where it tells whether a condition holds
+pub tells-only : {P : Type 0} (a b : Bool) → Tells P a → Tells P b → a ≡ b
+tells-only true true p q = refl
+tells-only true false p q = absurd (q .no refl (p .yes refl))
+tells-only false true p q = absurd (p .no refl (q .yes refl))
+tells-only false false p q = refl

@@ -5,3 +5,4 @@ pub mod Answers
 pub mod Pieces
 pub mod Sites
 pub mod Whole
+pub mod Only

@@ -1,8 +1,8 @@
 -- What stands before the trips (01, "Floorwalk: the program and its listing"): the sizes, the map and its survey, or the first refusal.
-use Prim.Native.Nat.{ℕ, _+_, _*_, _<_, _≤_}
+use Prim.Native.Nat.{ℕ, _+_, _*_, _^_, _<_, _≤_}
 use mathlib.Core.List.{List}
 use mathlib.Core.Path.{_≡_}
-use lib.ListN.{length, take}
+use lib.ListN.{length, getD, take}
 use Rattle.floor.specs.Words.{rowWords, freeCells, SizeRefused, Floor}
 use Rattle.plan.specs.Plan.{Lists, PlanOf}
 use Rattle.plan.specs.Survey.{lists, SurveyOutcome}
@@ -20,13 +20,15 @@ pub record SizesAt (text : List ℕ) (w h from : ℕ) : Type 0 where
   pub line : At (TwoLine w h) text 0 from
   pub accepted : ¬ (SizeRefused w h)
 
--- a map stands after them, up to `next`, and these words are its floor's
+-- a map stands after them, up to `next`, and these words are its floor's: 64-bit words, as many as the rows need
 pub record MapAt (text : List ℕ) (w h next : ℕ) (words : List ℕ) : Type 0 where
   pub from : ℕ
   pub sizes : SizesAt text w h from
   pub before : List ℕ
   pub after : List ℕ
   pub filled : Filled text from w h before after
+  pub room : h * rowWords w ≤ length after
+  pub wide : (i : ℕ) → getD after i 0 < 2 ^ 64
   pub cut : words ≡ take (h * rowWords w) after
   pub ends : next ≡ rowPlace from w h
 

@@ -3,7 +3,7 @@
 // Reading and writing are here. What is written is made by `opening` and `filling`, on slices, where promises can speak of it.
 ghost use mathlib.Core.Bool.{false};
 ghost use mathlib.Core.Path.{_≡_};
-ghost use Prim.Native.Nat.{_+_, _≤_};
+ghost use Prim.Native.Nat.{_+_, _<_, _≤_};
 ghost use lib.ListN.{length};
 ghost use Rattle.plan.specs.Survey.{lists};
 ghost use Rattle.floorwalk.specs.Replies.{ground, Walkable, Begins, spotOf};
@@ -167,7 +167,9 @@ fn walk(text: &[u8], more: bool) {
 }
 
 // Whether the input goes on after n bytes, of which 65,536 are taken at most.
-fn goes_on(n: usize) -> bool {
+fn goes_on(n: usize) -> bool
+    ensures { λ r. ⌜ (n < 65536 → r ≡ false) ⌝ }
+{
     if n < 65536 {
         return false;
     }

@@ -1,23 +1,20 @@
--- The test by rows may be made with the rows' clearances.
+-- A free place of a bounded board has exactly one clearance in each direction.
 -- Assumes nothing.
-use mathlib.Core.Path.{_≡_, refl, sym, subst}
+use mathlib.Core.Path.{_≡_, refl}
 use mathlib.Core.Bool.{true, false, _&&_}
-use mathlib.Core.Logic.{_⊎_, inl, inr, _↔_, ⊎-elim}
+use mathlib.Core.Logic.{_⊎_, inl, inr, ⊎-elim}
 use Prim.Native.Nat.{ℕ, zero, suc, _+_, _-_, _≤_, _<_}
 use native.Mathlib.Omega.{arith}
-use native.Mathlib.Nat.{le-trans}
 use native.Mathlib.Decide.{decLe}
 use lib.Dec.{ltb}
 use lib.ListN.{replicate}
 use borrow.Author.Tests.{ltb-true, lt-ltb}
 use Rattle.lengths.specs.Laws.{le-or-lt}
 use Rattle.floor.specs.Board.{Board, Place, Free, Dir, Offset, less, same, more, dx, dy, moving, corner}
-use Rattle.ground.specs.Rows.{cell, Rows}
-use Rattle.ground.specs.Clearance.{ahead, Clearance, ClearRows}
+use Rattle.ground.specs.Clearance.{ahead, Clearance}
 use Rattle.ground.specs.Within.{Within}
 use Rattle.ground.proofs.Logic.{true-or-false, not-both, and-left, and-right}
 use Rattle.ground.proofs.Near.{y-moves}
-use Rattle.ground.proofs.Walks.{end-append}
 use Rattle.ground.proofs.Axes.{end-x, end-y}
 use Rattle.ground.proofs.LineEnds.{hops, travel-replicate}
 
@@ -92,55 +89,3 @@ module _ {w h : ℕ} {B : Board} (within : Within w h B) where
     -- On a bounded board a free place has a clearance in every direction.
     pub clearance-exists : Free B p → (m : ℕ) × Clearance B c p m
     clearance-exists f = search-on far 0 (omega arith) (λ i l. let e : i ≡ 0 = omega arith in rw e f) (λ i l a. absurd (omega arith))
-
-module _ (B : Board) (s : Place) (d c : Dir) (n k : ℕ) (m : ℕ → ℕ) (clear : (i : ℕ) → i ≤ n → Clearance B c (ahead d i s) (m i)) where
-  -- a cell is j steps ahead on row i
-  on-row : (i j : ℕ) → cell s d c i j ≡ ahead c j (ahead d i s)
-  on-row i j = end-append s (replicate i d) (replicate j c)
-
-  -- the first cell of a row is on the ray
-  on-ray : (i : ℕ) → cell s d c i 0 ≡ ahead d i s
-  on-ray i = on-row i 0
-
-  -- no turning point
-  abbrev Plain : Place → Type 0
-  Plain p = corner B p ≡ false
-
-  -- rows that are free and plain are within the clearances
-  rows-clear : Rows B s d c n k → ClearRows B s d c n k m
-  rows-clear r =
-      record {
-        ray = r .ray;
-        ray-plain = λ i p q. subst Plain (on-ray i) (r .plain i 0 (omega arith) (omega arith) (omega arith) (omega arith));
-        ray-end = λ p q. subst Plain (on-ray n) (r .plain n 0 (omega arith) (omega arith) (omega arith) (omega arith));
-        wide = λ i p. within-clearance B c (ahead d i s) (m i) k (clear i p)
-            (λ j q. subst (Free B) (on-row i j) (r .free i j p q))
-            (λ j q a. subst Plain (on-row i j) (r .plain i j p (omega arith) (omega arith) (omega arith)));
-        row-end = λ i p q. subst Plain (on-row i k) (r .plain i k (omega arith) (omega arith) (omega arith) (omega arith));
-      }
-
-  -- and within the clearances the rows are free and plain
-  clear-rows : ClearRows B s d c n k m → Rows B s d c n k
-  clear-rows r =
-      record {
-        ray = r .ray;
-        free = λ i j p q. subst (Free B) (sym (on-row i j)) (clear i p .free j (le-trans q (r .wide i p)));
-        plain = plain-at;
-      }
-    where
-      plain-at : (i j : ℕ) → i ≤ n → j ≤ k → 0 < i + j → i + j < n + k → corner B (cell s d c i j) ≡ false
-      plain-at i zero p q a b = subst Plain (sym (on-ray i)) (by (decLe (suc i) n))
-        where
-          by : Dec (suc i ≤ n) → Plain (ahead d i s)
-          by (yes h) = r .ray-plain i (omega arith) h
-          by (no h) = let e : i ≡ n = omega arith in rw e (r .ray-end (omega arith) (omega arith))
-      plain-at i (suc j) p q a b = subst Plain (sym (on-row i (suc j))) (by (decLe (suc (suc j)) k))
-        where
-          by : Dec (suc (suc j) ≤ k) → Plain (ahead c (suc j) (ahead d i s))
-          by (yes h) = clear i p .plain (suc j) (omega arith) (le-trans h (r .wide i p))
-          by (no h) = let e : k ≡ suc j = omega arith in
-              subst (λ (l : ℕ). Plain (ahead c l (ahead d i s))) e (r .row-end i (omega arith) (omega arith))
-
-  -- E, with clearances.
-  pub rows-iff-clear : Rows B s d c n k ↔ ClearRows B s d c n k m
-  rows-iff-clear = (rows-clear, clear-rows)

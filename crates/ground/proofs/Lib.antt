@@ -24,4 +24,3 @@ pub mod Joined
 pub mod ByClearance
 pub mod Bounded
 pub mod Certificate
-pub mod Examples

@@ -4,11 +4,8 @@ use mathlib.Core.List.{List, [], _∷_, _++_}
 use mathlib.Core.Logic.{_⊎_}
 use mathlib.Core.Path.{_≡_}
 use lib.ListN.{length, take, drop}
-use Rattle.lengths.specs.Lengths.{Len, 𝟎, _⊕_}
-use Rattle.floor.specs.Board.{Board, Place, Dir, shift, go}
+use Rattle.floor.specs.Board.{Place, Dir, shift, go}
 use Rattle.floor.specs.Words.{placeOf}
-use Rattle.ground.specs.Kind.{octile, walkers}
-use Rattle.ground.specs.Walk.{Legal}
 use Rattle.ground.specs.Line.{toward, line}
 
 -- the number of the cell at a place
@@ -25,23 +22,6 @@ abbrev pub legs : ℕ → List ℕ → List ℕ
 legs w [] = []
 legs w (a ∷ []) = []
 legs w (a ∷ b ∷ rest) = after w (placeOf w a) (line (placeOf w a) (placeOf w b)) ++ legs w (b ∷ rest)
-
--- the sum of the legs' octile lengths
-abbrev pub legsLength : ℕ → List ℕ → Len
-legsLength w [] = 𝟎
-legsLength w (a ∷ []) = 𝟎
-legsLength w (a ∷ b ∷ rest) = octile (placeOf w a) (placeOf w b) ⊕ legsLength w (b ∷ rest)
-
--- each leg's direct line is legal
-abbrev pub LegsLegal : Board → ℕ → List ℕ → Type 0
-LegsLegal B w [] = Unit {0}
-LegsLegal B w (a ∷ []) = Unit {0}
-LegsLegal B w (a ∷ b ∷ rest) = Legal walkers B (placeOf w a) (line (placeOf w a) (placeOf w b)) × LegsLegal B w (b ∷ rest)
-
--- the last of a chain that begins with a
-abbrev pub lastOf : ℕ → List ℕ → ℕ
-lastOf a [] = a
-lastOf a (b ∷ rest) = lastOf b rest
 
 -- how many steps the direct line has
 unfoldable pub steps : Place → Place → ℕ

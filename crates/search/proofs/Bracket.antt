@@ -1,15 +1,16 @@
 -- Laws of a tournament, over any order of what nodes hold and any leaves.
 -- Assumes nothing.
-use mathlib.Core.Path.{_≡_, sym, _∙_, ap}
+use mathlib.Core.Path.{_≡_, refl, sym, _∙_, ap}
 use mathlib.Core.Logic.{_⊎_, inl, inr, ⊎-elim}
 use mathlib.Core.List.{List}
 use Prim.Native.Nat.{ℕ, zero, suc, _+_, _*_, _-_, _/_, _≤_, _<_}
+use native.Mathlib.Nat.{le-refl}
 use native.Mathlib.Omega.{arith}
 use native.Mathlib.Decide.{ℕ-discrete, decLt}
 use borrow.Author.Tests.{lt-ltb, le-ltb}
 use lib.ListN.{length, getD, set}
-use lib.Seq.{getD-set-same, getD-set-other}
-use Rattle.search.specs.Tree.{nodeOf, Above, next, later, Better, Won, Tournament, RightBut}
+use lib.Seq.{set-getD, getD-set-same, getD-set-other}
+use Rattle.search.specs.Tree.{nodeOf, Above, next, later, OnWay, Better, Won, Tournament, RightBut, Shaken}
 
 module _ (leaf : ℕ → ℕ) (n : ℕ) (T : List ℕ) where
   -- What a node below n holds is stored.
@@ -138,34 +139,55 @@ module _ (R : ℕ → ℕ → Type 0) (leaf : ℕ → ℕ) (own : OwnLeaves leaf
   pub top-own : 1 < n → getD T 1 0 ≡ p + 1 → leaf p ≡ p + 1
   top-own many q = only-above (n + n) 1 (omega arith) (omega arith) (omega arith) (node-inner leaf n T 1 many ∙ q) .1
 
-  -- Where the order and the leaves change at p alone, each node stays right that is not above p's own.
-  pub right-off-path :
-      (R′ : ℕ → ℕ → Type 0) (leaf′ : ℕ → ℕ) → ((x y : ℕ) → (x ≡ p + 1 → ⊥) → (y ≡ p + 1 → ⊥) → R x y → R′ x y) →
-      ((x : ℕ) → (x ≡ p → ⊥) → leaf′ x ≡ leaf x) →
-      RightBut R′ leaf′ n (n + p) T
-  right-off-path R′ leaf′ kept leaves i pos l = (won i pos l .fits, λ off. record { fits = won i pos l .fits; better = better′ off })
-    where
-      b : Better R (nodeOf leaf n T (2 * i)) (nodeOf leaf n T (2 * i + 1)) (getD T i 0)
-      b = won i pos l .better
+  -- The order and the leaves change at p alone.
+  module _ (R′ : ℕ → ℕ → Type 0) (leaf′ : ℕ → ℕ) (kept : (x y : ℕ) → (x ≡ p + 1 → ⊥) → (y ≡ p + 1 → ⊥) → R x y → R′ x y) (leaves : (x : ℕ) → (x ≡ p → ⊥) → leaf′ x ≡ leaf x) where
+    -- Each node but p's own holds what it held.
+    node-same : (c : ℕ) → (c ≡ n + p → ⊥) → nodeOf leaf′ n T c ≡ nodeOf leaf n T c
+    node-same c far = go (decLt c n)
+      where
+        go : Dec (c < n) → nodeOf leaf′ n T c ≡ nodeOf leaf n T c
+        go (yes m) = node-inner leaf′ n T c m ∙ sym (node-inner leaf n T c m)
+        go (no m) = node-leaf leaf′ n T c (omega arith) ∙ leaves (c - n) (λ q. far (omega arith)) ∙ sym (node-leaf leaf n T c (omega arith))
 
-      child : (Above (n + p) i → ⊥) → (c : ℕ) → i ≡ c / 2 → 0 < c → c < n + n → nodeOf leaf n T c ≡ p + 1 → ⊥
-      child off c e pos-c l-c q = off (half-above (only-above (n + n) c (omega arith) pos-c l-c q .0) e)
+    -- A node whose children do not hold p stays right, but for the one right above p's own.
+    won-still :
+        (i : ℕ) → 0 < i → i < n → (i ≡ (n + p) / 2 → ⊥) → (nodeOf leaf n T (2 * i) ≡ p + 1 → ⊥) → (nodeOf leaf n T (2 * i + 1) ≡ p + 1 → ⊥) →
+        Won R′ leaf′ n T i
+    won-still i pos l far left right =
+        let b = won i pos l .better in
+        let winner : getD T i 0 ≡ p + 1 → ⊥ = λ q. ⊎-elim (λ e. left (sym e ∙ q)) (λ e. right (sym e ∙ q)) (b .one) in
+        record {
+          fits = won i pos l .fits;
+          better =
+              rw (node-same (2 * i) (λ q. far (omega arith)), node-same (2 * i + 1) (λ q. far (omega arith)))
+              (record { one = b .one; left = kept _ _ winner left (b .left); right = kept _ _ winner right (b .right) });
+        }
 
-      stays : (Above (n + p) i → ⊥) → (c : ℕ) → i ≡ c / 2 → nodeOf leaf′ n T c ≡ nodeOf leaf n T c
-      stays off c e = go (decLt c n)
-        where
-          go : Dec (c < n) → nodeOf leaf′ n T c ≡ nodeOf leaf n T c
-          go (yes m) = node-inner leaf′ n T c m ∙ sym (node-inner leaf n T c m)
-          go (no m) =
-              node-leaf leaf′ n T c (omega arith) ∙ leaves (c - n) (λ q. off (half-above (inl (omega arith)) e)) ∙ sym (node-leaf leaf n T c (omega arith))
+    -- Each node stays right that is not above p's own.
+    right-off-path : RightBut R′ leaf′ n (n + p) T
+    right-off-path i pos l = (
+      won i pos l .fits,
+      λ off.
+          won-still i pos l (λ q. off (next q)) (child off (2 * i) (omega arith) (omega arith) (omega arith))
+          (child off (2 * i + 1) (omega arith) (omega arith) (omega arith)),
+    )
+      where
+        child : (Above (n + p) i → ⊥) → (c : ℕ) → i ≡ c / 2 → 0 < c → c < n + n → nodeOf leaf n T c ≡ p + 1 → ⊥
+        child off c e pos-c l-c q = off (half-above (only-above (n + n) c (omega arith) pos-c l-c q .0) e)
 
-      better′ : (Above (n + p) i → ⊥) → Better R′ (nodeOf leaf′ n T (2 * i)) (nodeOf leaf′ n T (2 * i + 1)) (getD T i 0)
-      better′ off =
-          let left : nodeOf leaf n T (2 * i) ≡ p + 1 → ⊥ = child off (2 * i) (omega arith) (omega arith) (omega arith) in
-          let right : nodeOf leaf n T (2 * i + 1) ≡ p + 1 → ⊥ = child off (2 * i + 1) (omega arith) (omega arith) (omega arith) in
-          let winner : getD T i 0 ≡ p + 1 → ⊥ = λ q. ⊎-elim (λ e. left (sym e ∙ q)) (λ e. right (sym e ∙ q)) (b .one) in
-          rw (stays off (2 * i) (omega arith), stays off (2 * i + 1) (omega arith))
-          (record { one = b .one; left = kept _ _ winner left (b .left); right = kept _ _ winner right (b .right) })
+    -- So the tournament is to be put right from p's own node on.
+    pub shaken-first : Shaken R′ leaf′ n p (n + p) T
+    shaken-first = record {
+      way = inl refl;
+      right = right-off-path;
+      own = λ c pos l q. own-way c pos l q (ℕ-discrete c (n + p));
+      calm = λ i pos l far left right.
+          won-still i pos l far (λ q. left (node-same (2 * i) (λ e. far (omega arith)) ∙ q)) (λ q. right (node-same (2 * i + 1) (λ e. far (omega arith)) ∙ q));
+    }
+      where
+        own-way : (c : ℕ) → 0 < c → c < n + n → nodeOf leaf′ n T c ≡ p + 1 → Dec (c ≡ n + p) → OnWay (n + p) c
+        own-way c pos l q (yes e) = inl e
+        own-way c pos l q (no m) = only-above (n + n) c (omega arith) pos l (sym (node-same c m) ∙ q) .0
 
 -- Nothing but node 0, which is not used, stands above the top.
 above-top : {x i : ℕ} → Above x i → x ≤ 1 → i ≡ 0
@@ -177,13 +199,53 @@ above-split : {x i : ℕ} → Above x i → (i ≡ x / 2) ⊎ Above (x / 2) i
 above-split (next q) = inl q
 above-split (later a) = inr a
 
+-- What stands above x is at most half of it.
+above-less : {x i : ℕ} → Above x i → i ≤ x / 2
+above-less (next {i = x} {j = i} q) = omega arith
+above-less (later {i = x} a) = omega (arith, above-less a)
+
+-- Of two nodes with one parent only one is on the way from x. By a bound k on x, since x / 2 is less than x.
+way-once : (k x c d : ℕ) → x ≤ k → OnWay x c → OnWay x d → c / 2 ≡ d / 2 → 0 < c / 2 → c ≡ d
+way-once zero x c d h a b e pos = ⊎-elim (λ p. absurd (omega arith)) (λ p. absurd (omega (arith, above-less p))) a
+way-once (suc k) x c d h a b e pos = go (way-once k) a b
+  where
+    go : ((y u v : ℕ) → y ≤ k → OnWay y u → OnWay y v → u / 2 ≡ v / 2 → 0 < u / 2 → u ≡ v) → OnWay x c → OnWay x d → c ≡ d
+    go up (inl p) (inl q) = omega arith
+    go up (inl p) (inr q) = absurd (omega (arith, above-less q))
+    go up (inr p) (inl q) = absurd (omega (arith, above-less p))
+    go up (inr p) (inr q) = up (x / 2) c d (omega arith) (above-split p) (above-split q) e pos
+
+-- Above a node of p's way that does not hold p.
+module _ {R : ℕ → ℕ → Type 0} {leaf : ℕ → ℕ} {n : ℕ} {T : List ℕ} {p x : ℕ} (s : Shaken R leaf n p x T) (more : 1 < x) (high : x < n + n) where
+  -- Neither it nor the other child of its parent holds p.
+  brother-free :
+      {y : ℕ} → OnWay (n + p) y → y ≤ x / 2 → (nodeOf leaf n T y ≡ p + 1 → ⊥) → 0 < y / 2 → (c : ℕ) → c / 2 ≡ y / 2 → nodeOf leaf n T c ≡ p + 1 → ⊥
+  brother-free {y} way low free pos c e q =
+      let same : c ≡ y = way-once (n + p) (n + p) c y (le-refl _) (s .own c (omega arith) (omega arith) q) way e (omega arith) in
+      free (rw same at q)
+
+  -- So its parent does not hold p.
+  parent-free : {y : ℕ} → OnWay (n + p) y → y ≤ x / 2 → (nodeOf leaf n T y ≡ p + 1 → ⊥) → 0 < y / 2 → nodeOf leaf n T (y / 2) ≡ p + 1 → ⊥
+  parent-free {y} way low free pos q =
+      let left = brother-free way low free pos (2 * (y / 2)) (omega arith) in
+      let right = brother-free way low free pos (2 * (y / 2) + 1) (omega arith) in
+      let stored = node-inner leaf n T (y / 2) (omega arith) in
+      ⊎-elim (λ e. left (sym e ∙ sym stored ∙ q)) (λ e. right (sym e ∙ sym stored ∙ q)) (s .calm (y / 2) pos (omega arith) (λ e. omega arith) left right .better .one)
+
+  -- And so on: no child of a node above it holds p.
+  no-child :
+      {y i : ℕ} → OnWay (n + p) y → y ≤ x / 2 → (nodeOf leaf n T y ≡ p + 1 → ⊥) → Above y i → 0 < i → (c : ℕ) → c / 2 ≡ i → nodeOf leaf n T c ≡ p + 1 → ⊥
+  no-child way low free (next q) pos c e = brother-free way low free (omega arith) c (e ∙ q)
+  no-child way low free (later {i = y} a) pos c e =
+      no-child (inr (half-above way refl)) (omega arith) (parent-free way low free (omega (arith, above-less a))) a pos c e
+
 module _ (R : ℕ → ℕ → Type 0) (leaf : ℕ → ℕ) (n : ℕ) (T : List ℕ) where
   -- At the top no node is left to put right.
   pub right-at-top : RightBut R leaf n 1 T → Tournament R leaf n T
   right-at-top right i pos l = right i pos l .1 (λ a. let q = above-top a (omega arith) in omega arith)
 
   -- One node put right, on the way up.
-  pub right-up :
+  right-up :
       (x : ℕ) → 1 < x → x < n + n → length T ≡ n → RightBut R leaf n x T → (r : ℕ) → r ≤ n →
       Better R (nodeOf leaf n T (2 * (x / 2))) (nodeOf leaf n T (2 * (x / 2) + 1)) r →
       RightBut R leaf n (x / 2) (set T (x / 2) r)
@@ -198,3 +260,51 @@ module _ (R : ℕ → ℕ → Type 0) (leaf : ℕ → ℕ) (n : ℕ) (T : List �
         λ off.
             won-elsewhere R leaf n T (x / 2) r i m (λ q. off (next q)) (right i pos h .1 (λ a. ⊎-elim m off (above-split a))),
       )
+
+  module _ {p x : ℕ} (s : Shaken R leaf n p x T) (more : 1 < x) (l : x < n + n) (long : length T ≡ n) {r : ℕ} (fit : r ≤ n) (b : Better R (nodeOf leaf n T (2 * (x / 2))) (nodeOf leaf n T (2 * (x / 2) + 1)) r) where
+    -- One node more is put right after a change of p alone.
+    pub shaken-up : Shaken R leaf n p (x / 2) (set T (x / 2) r)
+    shaken-up = record {
+      way = inr (half-above (s .way) refl);
+      right = right-up x more l long (s .right) r fit b;
+      own = λ c pos h q. own c pos h q (ℕ-discrete c (x / 2));
+      calm = λ i pos h far left right. calm i pos h far left right (ℕ-discrete i (x / 2));
+    }
+      where
+        own : (c : ℕ) → 0 < c → c < n + n → nodeOf leaf n (set T (x / 2) r) c ≡ p + 1 → Dec (c ≡ x / 2) → OnWay (n + p) c
+        own c pos h q (yes e) = inr (half-above (s .way) e)
+        own c pos h q (no m) = s .own c pos h (sym (node-kept leaf n T (x / 2) r c m) ∙ q)
+
+        calm :
+            (i : ℕ) → 0 < i → i < n → (i ≡ x / 2 / 2 → ⊥) → (nodeOf leaf n (set T (x / 2) r) (2 * i) ≡ p + 1 → ⊥) →
+            (nodeOf leaf n (set T (x / 2) r) (2 * i + 1) ≡ p + 1 → ⊥) →
+            Dec (i ≡ x / 2) →
+            Won R leaf n (set T (x / 2) r) i
+        calm i pos h far left right (yes q) = rw q (won-here R leaf n T (x / 2) r (omega arith) (omega arith) fit b)
+        calm i pos h far left right (no m) =
+            won-elsewhere R leaf n T (x / 2) r i m far
+            (s .calm i pos h m (λ q. left (node-kept leaf n T (x / 2) r (2 * i) (λ e. far (omega arith)) ∙ q))
+            (λ q. right (node-kept leaf n T (x / 2) r (2 * i + 1) (λ e. far (omega arith)) ∙ q)))
+
+    -- The node holds who it held, and that is not p: the tournament is right.
+    pub right-early : getD T (x / 2) 0 ≡ r → (r ≡ p + 1 → ⊥) → Tournament R leaf n (set T (x / 2) r)
+    right-early e other = rw q (λ i pos h. go i pos h (ℕ-discrete i (x / 2)) (ℕ-discrete (nodeOf leaf n T (2 * i)) (p + 1)) (ℕ-discrete (nodeOf leaf n T (2 * i + 1)) (p + 1)))
+      where
+        q : set T (x / 2) r ≡ T
+        q = ap (set T (x / 2)) (sym e) ∙ set-getD T (x / 2) 0
+
+        here : Won R leaf n T (x / 2)
+        here = rw q at (won-here R leaf n T (x / 2) r (omega arith) (omega arith) fit b)
+
+        free : nodeOf leaf n T (x / 2) ≡ p + 1 → ⊥
+        free z = other (sym e ∙ sym (node-inner leaf n T (x / 2) (omega arith)) ∙ z)
+
+        bare : (i : ℕ) → 0 < i → (i ≡ x / 2 → ⊥) → (c : ℕ) → c / 2 ≡ i → nodeOf leaf n T c ≡ p + 1 → Above x i → ⊥
+        bare i pos m c h z a =
+            ⊎-elim m (λ a′. no-child s more l (inr (half-above (s .way) refl)) (le-refl _) free a′ pos c h z) (above-split a)
+
+        go : (i : ℕ) → 0 < i → i < n → Dec (i ≡ x / 2) → Dec (nodeOf leaf n T (2 * i) ≡ p + 1) → Dec (nodeOf leaf n T (2 * i + 1) ≡ p + 1) → Won R leaf n T i
+        go i pos h (yes z) left right = rw z here
+        go i pos h (no m) (yes z) right = s .right i pos h .1 (bare i pos m (2 * i) (omega arith) z)
+        go i pos h (no m) (no left) (yes z) = s .right i pos h .1 (bare i pos m (2 * i + 1) (omega arith) z)
+        go i pos h (no m) (no left) (no right) = s .calm i pos h m left right

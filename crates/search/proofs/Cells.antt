@@ -2,7 +2,7 @@
 -- Assumes nothing.
 use mathlib.Core.Path.{_≡_, refl, sym, _∙_, ap, ap₂}
 use mathlib.Core.List.{List, [], _∷_}
-use Prim.Native.Nat.{ℕ, zero, suc, _+_, _*_, _-_, _/_, _%_, _≤_, _<_}
+use Prim.Native.Nat.{ℕ, zero, suc, _+_, _*_, _-_, _/_, _%_, _≤_, _<_, min}
 use native.Mathlib.Nat.{le-refl, le-of-suc-le-suc, mod-lt, div-add-mod', div-lt-iff-lt-mul}
 use native.Mathlib.Omega.{arith}
 use native.Mathlib.Decide.{ℕ-discrete, decLt}
@@ -11,7 +11,7 @@ use lib.ListN.{length, getD}
 use Rattle.lengths.specs.Lengths.{gap, octileOf}
 use Rattle.lengths.specs.Laws.{weight}
 use Rattle.search.specs.declared.Trip.{Trip}
-use Rattle.search.specs.Places.{indexOf, Ascending, Bound, cellOf, apart, TwoCells}
+use Rattle.search.specs.Places.{indexOf, Ascending, Bound, Gain, cellOf, apart, TwoCells}
 
 -- Where a cell first stands is its index.
 pub index-first : (C : List ℕ) (cell i : ℕ) → i < length C → getD C i 0 ≡ cell → ((j : ℕ) → j < i → getD C j 0 ≡ cell → ⊥) → indexOf C cell ≡ i
@@ -48,6 +48,31 @@ index-at (x ∷ xs) cell h = go (ℕ-discrete x cell) (index-at xs cell)
     go (yes q) rest = rw (eq-eqb x cell q) q
     go (no n) rest = rw (ne-eqb x cell n) (rest (le-of-suc-le-suc (rw (ne-eqb x cell n) at h)))
 
+-- ---- a search by halves
+-- The quotient is 1 where c is less than x.
+pub quotient-less : {c x : ℕ} → c < 65536 → x ≤ 65536 → c < x → (131071 + x - c) / 131072 ≡ 1
+quotient-less h k l = omega arith
+
+-- It is 0 where c is not.
+pub quotient-other : {c x : ℕ} → c < 65536 → x ≤ 65536 → x ≤ c → (131071 + x - c) / 131072 ≡ 0
+quotient-other h k l = omega arith
+
+-- A product with it is no more than the other factor.
+pub gain-most : (c x half : ℕ) → c < 65536 → x ≤ 65536 → half * ((131071 + x - c) / 131072) ≤ half
+gain-most c x half h k = go (decLt c x)
+  where
+    go : Dec (c < x) → half * ((131071 + x - c) / 131072) ≤ half
+    go (yes l) = rw (quotient-less h k l) (omega arith)
+    go (no m) = rw (quotient-other h k (omega arith)) (omega arith)
+
+-- What is gained is no more than the half.
+pub gain-fits : {c x half r : ℕ} → Gain c x half r → r ≤ half
+gain-fits {c} {x} {half} {r} g = go (decLt c x)
+  where
+    go : Dec (c < x) → r ≤ half
+    go (yes l) = omega (arith, g .less l)
+    go (no m) = omega (arith, g .other (omega arith))
+
 -- The two ends close in: what is below the one is less than the cell, and what is from the other on is not.
 pub record Ends (C : List ℕ) (cell lo hi : ℕ) : Type 0 where
   pub low : lo ≤ hi
@@ -56,8 +81,8 @@ pub record Ends (C : List ℕ) (cell lo hi : ℕ) : Type 0 where
   pub after : (i : ℕ) → hi ≤ i → i < length C → cell ≤ getD C i 0
 
 -- At first nothing is known.
-pub ends-first : (C : List ℕ) (cell : ℕ) → Ends C cell 0 (length C)
-ends-first C cell = record { low = omega arith; high = le-refl _; before = λ i h. absurd (omega arith); after = λ i h l. absurd (omega arith) }
+pub ends-first : (C : List ℕ) (cell : ℕ) → Ends C cell 0 (0 + length C)
+ends-first C cell = record { low = omega arith; high = omega arith; before = λ i h. absurd (omega arith); after = λ i h l. absurd (omega arith) }
 
 -- Where the ends meet, the bound is found.
 pub ends-met : (C : List ℕ) (cell lo hi : ℕ) → Ends C cell lo hi → hi ≤ lo → Bound C cell lo
@@ -107,24 +132,33 @@ module _ (C : List ℕ) (up : Ascending C) where
       go (yes m) = omega (arith, up i j m l)
       go (no m) = let q : i ≡ j = omega arith in rw q (le-refl _)
 
-  module _ (cell lo hi : ℕ) (e : Ends C cell lo hi) (mid : ℕ) (h : lo ≤ mid) (l : mid < hi) where
+  module _ {cell lo len half : ℕ} (e : Ends C cell lo (lo + len)) (some : 0 < len) (middle : half ≡ (len + 1) / 2) where
     -- The middle entry is less: all up to it are.
-    pub ends-up : getD C mid 0 < cell → Ends C cell (mid + 1) hi
+    ends-up : getD C (lo + half - 1) 0 < cell → Ends C cell (lo + half) (lo + half + (len - half))
     ends-up less = record {
       low = omega arith;
-      high = e .high;
-      before = λ i k. omega (arith, no-more i mid (omega arith) (omega (arith, e .high)));
-      after = e .after;
+      high = omega (arith, e .high);
+      before = λ i k. omega (arith, no-more i (lo + half - 1) (omega arith) (omega (arith, e .high)));
+      after = λ i k l. e .after i (omega arith) l;
     }
 
     -- The middle entry is not less: none from it on is.
-    pub ends-down : cell ≤ getD C mid 0 → Ends C cell lo mid
+    ends-down : cell ≤ getD C (lo + half - 1) 0 → Ends C cell lo (lo + (len - half))
     ends-down more = record {
-      low = h;
+      low = omega arith;
       high = omega (arith, e .high);
       before = e .before;
-      after = λ i k j. omega (arith, no-more mid i k j);
+      after = λ i k l. omega (arith, no-more (lo + half - 1) i (omega arith) l);
     }
+
+    -- So the half that is left is known by whether the middle entry is less.
+    pub ends-half :
+        {x c r : ℕ} → x ≡ min cell 65536 → c ≡ getD C (lo + half - 1) 0 → c < 65536 → Gain c x half r → Ends C cell (lo + r) (lo + r + (len - half))
+    ends-half {x} {c} {r} most is fits g = go (decLt c x)
+      where
+        go : Dec (c < x) → Ends C cell (lo + r) (lo + r + (len - half))
+        go (yes l) = rw (g .less l) (ends-up (omega arith))
+        go (no m) = let q : lo + r ≡ lo = omega (arith, g .other (omega arith)) in rw q (ends-down (omega arith))
 
 -- ---- the cells of places
 module _ (C : List ℕ) (t : Trip) where

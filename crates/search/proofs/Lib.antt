@@ -9,4 +9,3 @@ pub mod Decode
 pub mod Steps
 pub mod Follows
 pub mod Running
-pub mod Examples

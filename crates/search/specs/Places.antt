@@ -1,5 +1,6 @@
 -- Cells by number: where one stands in an ascending list, the cells of places, and how far two cells are apart.
 -- Assumes nothing.
+use mathlib.Core.Path.{_≡_}
 use mathlib.Core.Bool.{cond}
 use mathlib.Core.List.{List, [], _∷_}
 use Prim.Native.Nat.{ℕ, suc, _*_, _/_, _%_, _≤_, _<_}
@@ -23,6 +24,11 @@ pub record Bound (C : List ℕ) (cell at : ℕ) : Type 0 where
   pub within : at ≤ length C
   pub before : (i : ℕ) → i < at → getD C i 0 < cell
   pub after : (i : ℕ) → at ≤ i → i < length C → cell ≤ getD C i 0
+
+-- r is `half` where c is less than x, else 0.
+pub record Gain (c x half r : ℕ) : Type 0 where
+  pub less : c < x → r ≡ half
+  pub other : x ≤ c → r ≡ 0
 
 -- The cell of a place: the corners come first, then the start, then the goal.
 unfoldable pub cellOf : List ℕ → Trip → ℕ → ℕ

@@ -29,6 +29,10 @@ pub data Above : ℕ → ℕ → Type 0 where
   next : {i j : ℕ} → j ≡ i / 2 → Above i j
   later : {i j : ℕ} → Above (i / 2) j → Above i j
 
+-- Node c is node x, or stands above it.
+abbrev pub OnWay : ℕ → ℕ → Type 0
+OnWay x c = (c ≡ x) ⊎ Above x c
+
 -- a comes no later than b, by the entries of labels and then by cell: anybody comes before nobody.
 pub record Ahead (D : List ℕ) (cell : ℕ → ℕ) (a b : ℕ) : Type 0 where
   pub some : 0 < b → 0 < a
@@ -55,6 +59,16 @@ module _ (R : ℕ → ℕ → Type 0) where
     abbrev pub RightBut : ℕ → List ℕ → Type 0
     RightBut x T = (i : ℕ) → 0 < i → i < n → (getD T i 0 ≤ n) × ((Above x i → ⊥) → Won T i)
 
+    -- Place p alone has changed, and its tournament is put right up to node x.
+    pub record Shaken (p x : ℕ) (T : List ℕ) : Type 0 where
+      pub way : OnWay (n + p) x
+      pub right : RightBut x T
+      -- p stands only on its own way to the top
+      pub own : (c : ℕ) → 0 < c → c < n + n → nodeOf leaf n T c ≡ p + 1 → OnWay (n + p) c
+      -- a node whose children do not hold p is right, but for the one right above x
+      pub calm :
+          (i : ℕ) → 0 < i → i < n → (i ≡ x / 2 → ⊥) → (nodeOf leaf n T (2 * i) ≡ p + 1 → ⊥) → (nodeOf leaf n T (2 * i + 1) ≡ p + 1 → ⊥) → Won T i
+
 -- What the tree needs: the corners of the trip, and room for the columns.
 pub record Room (C : List ℕ) (t : Trip) (W : List ℕ) : Type 0 where
   pub corners : length C ≡ t .k
@@ -73,9 +87,9 @@ module _ (C : List ℕ) (t : Trip) (W : List ℕ) where
   pub record Right : Type 0 where
     pub won : Tournament ranks leaves (t .k + 2) (columnOf (t .k + 2) W Tree)
 
-  -- The tree is right but for the nodes above node x.
-  pub record NearlyRight (x : ℕ) : Type 0 where
-    pub right : RightBut ranks leaves (t .k + 2) x (columnOf (t .k + 2) W Tree)
+  -- Place p alone has changed, and the tree is right but for the nodes above node x.
+  pub record NearlyRight (p x : ℕ) : Type 0 where
+    pub shaken : Shaken ranks leaves (t .k + 2) p x (columnOf (t .k + 2) W Tree)
 
   -- Node i is an inner one, and its children hold places or nobody.
   pub record Playable (i : ℕ) : Type 0 where
@@ -85,9 +99,8 @@ module _ (C : List ℕ) (t : Trip) (W : List ℕ) where
     pub left : nodeOf leaves (t .k + 2) (columnOf (t .k + 2) W Tree) (2 * i) ≤ t .k + 2
     pub right : nodeOf leaves (t .k + 2) (columnOf (t .k + 2) W Tree) (2 * i + 1) ≤ t .k + 2
 
-  -- Node i is put right, and nothing else changes.
-  pub record Played (i : ℕ) (W′ : List ℕ) : Type 0 where
-    pub winner : ℕ
+  -- Node i is put right by its winner, and nothing else changes.
+  pub record Played (i winner : ℕ) (W′ : List ℕ) : Type 0 where
     pub fits : winner ≤ t .k + 2
     pub better :
         Better ranks (nodeOf leaves (t .k + 2) (columnOf (t .k + 2) W Tree) (2 * i)) (nodeOf leaves (t .k + 2) (columnOf (t .k + 2) W Tree) (2 * i + 1)) winner

@@ -2,13 +2,13 @@
 // their index, then the start (k) and the goal (k + 1), unless they are corners themselves. All state is in a work
 // space that the caller lends: six columns of k + 2 entries, where 0 means nothing, so that zeros are an empty search.
 ghost use mathlib.Core.Path.{_≡_};
-ghost use Prim.Native.Nat.{ℕ, _+_, _*_, _<_, _≤_};
+ghost use Prim.Native.Nat.{ℕ, _+_, _*_, _<_, _≤_, min};
 ghost use mathlib.Core.List.{List};
 ghost use lib.ListN.{length, getD};
 ghost use Rattle.lengths.specs.Lengths.{gap as gapOf, octileOf};
 ghost use Rattle.lengths.specs.Laws.{weight};
 ghost use Rattle.search.specs.Columns.{columnOf, Label, Tree, Settled, Inside, Put};
-ghost use Rattle.search.specs.Places.{indexOf, Ascending, Bound, cellOf, apart, TwoCells};
+ghost use Rattle.search.specs.Places.{indexOf, Ascending, Bound, Gain, cellOf, apart, TwoCells};
 ghost use Rattle.search.specs.Chart.{chart, flagged as flaggedOf, Rows, arcsOf, countOf, cornerLink, linkAt, linkCount};
 ghost use Rattle.search.specs.Tree.{waitsAt, leafOf, nodeOf, Better, ranks, Room, Right, NearlyRight, Playable, Played, Raised};
 ghost use Rattle.search.specs.Search.{labelsOf, Ready, limit, Near, Settling, Blank, Bounded, Run};
@@ -119,21 +119,38 @@ pub fn leg(w: usize, a: usize, b: usize) -> u32
     weigh(dx, dy)
 }
 
-// The index of the first cell that is not less than `cell`.
+// A cell number as one that fits 17 bits: all from 65536 on come after every number of 16 bits.
+fn capped(cell: usize) -> usize
+    ensures { λ r. ⌜ r ≡ min cell 65536 ⌝ }
+{
+    if cell < 65536 {
+        return cell;
+    }
+    65536
+}
+
+// `half` where c is less than x, else 0. It is reckoned, since a branch would be foretold wrongly every other time; and
+// by 17 bits, since the compiler knows the carry of 16 for a comparison, and makes a branch of it.
+fn gain(c: usize, x: usize, half: usize) -> usize
+    requires { ⌜ (c < 65536) × (x ≤ 65536) ⌝ }
+    ensures { λ r. ⌜ Gain c x half r ⌝ }
+{
+    half * ((131071 + x - c) / 131072)
+}
+
+// The index of the first cell that is not less than `cell`: it is among the `len` from `lo` on, or next after them.
 fn lower_bound(cells: &[u16], cell: usize) -> usize
     requires { ⌜ Ascending (now cells) ⌝ }
     ensures { λ r. ⌜ Bound (now (cells .entry)) cell r ⌝ }
 {
+    let x = capped(cell);
     let mut lo: usize = 0;
-    let mut hi = cells.len();
-    while lo < hi {
-        let mid = lo + (hi - lo) / 2;
-        let c = wide(cells[mid]);
-        if c < cell {
-            lo = mid + 1;
-        } else {
-            hi = mid;
-        }
+    let mut len = cells.len();
+    while 0 < len {
+        let half = (len + 1) / 2;
+        let c = wide(cells[lo + half - 1]);
+        lo += gain(c, x, half);
+        len -= half;
     }
     lo
 }
@@ -313,29 +330,37 @@ fn better(corners: &[u16], t: Trip, work: &[u32], a: u32, b: u32) -> u32
     sooner(corners, t, work, a, b)
 }
 
-// Puts node i right.
-fn renew(corners: &[u16], t: Trip, work: &mut [u32], i: usize)
+// Puts node i right, and says who wins there.
+fn renew(corners: &[u16], t: Trip, work: &mut [u32], i: usize) -> u32
     requires { ⌜ Playable (now corners) t (now work) i ⌝ }
-    ensures { λ r. ⌜ Played (now (corners .entry)) t (now (work .entry)) i (now (work .exit)) ⌝ }
+    ensures { λ r. ⌜ Played (now (corners .entry)) t (now (work .entry)) i r (now (work .exit)) ⌝ }
 {
     let n = t.k + 2;
     let a = node(work, n, 2 * i);
     let b = node(work, n, 2 * i + 1);
     let best = better(corners, t, work, a, b);
     put(work, n, TREE, i, best);
+    best
 }
 
-// Puts the tree right after place p alone has changed: each node above it, from below to the top.
+// Puts the tree right after place p alone has changed: each node above it, from below to the top, or to a node that
+// holds another than p and still the same one, since then nothing changes above it.
 fn raise(corners: &[u16], t: Trip, work: &mut [u32], p: usize)
     requires room { ⌜ Room (now corners) t (now work) ⌝ }
     requires inside { ⌜ p < t .k + 2 ⌝ }
-    requires nearly { ⌜ NearlyRight (now corners) t (now work) (t .k + 2 + p) ⌝ }
+    requires nearly { ⌜ NearlyRight (now corners) t (now work) p (t .k + 2 + p) ⌝ }
     ensures { λ r. ⌜ Raised (now (corners .entry)) t (now (work .entry)) (now (work .exit)) ⌝ }
 {
     let mut i = t.k + 2 + p;
     while 1 < i {
         i = i / 2;
-        renew(corners, t, work, i);
+        let old = get(work, t.k + 2, TREE, i);
+        let new = renew(corners, t, work, i);
+        if size(new) != p + 1 {
+            if new == old {
+                return;
+            }
+        }
     }
 }
 

@@ -11,7 +11,6 @@ returns c =
     let best = c .before .before .before .before .better in
     let p = c .before .before .before .before .before .before .before .before .before .before .before .before .before .pre in
     record {
-      winner = best .result;
       fits = better-fits (best .ensures) _ (rw a (p .left)) (rw b (p .right));
       better = rw (← a, ← b) (best .ensures);
       put = c .before .before .put .ensures;

@@ -100,7 +100,17 @@ returns-2 c =
     let s = r .before .before .before .before .before .before .before .before .before in
     let u = subst (RowsRead _ _ _ _ _ _) (x .next .given .1) (r .read-rows .ensures) in
     let m : MapAt (now (s .args .text)) (s .args .w) (s .args .h) (x .next .given .0 .0) (take (s .args .h * rowWords (s .args .w)) (r .read-rows .last .1 .1 .1 .1 .0))
-    = record { from = s .args .from; sizes = s .pre .0; before = _; after = _; filled = u .1; cut = refl; ends = u .0 } in
+    = record {
+      from = s .args .from;
+      sizes = s .pre .0;
+      before = _;
+      after = _;
+      filled = u .1;
+      room = omega (arith, few s, r .read-rows .kept .1 .1 .1 .1 .0, s .pre .1 .words-size);
+      wide = λ i. omega (arith, x .before .before .slice-known7 .given i);
+      cut = refl;
+      ends = u .0;
+    } in
     let l = s .pre .1 .largest in
     let k = v .survey-floor .kept in
     opened _ _ _ _ _ _ _ _ _ m l
