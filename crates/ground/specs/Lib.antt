@@ -1,4 +1,4 @@
--- The definitions that a reader must believe, and the tests that code makes.
+-- The definitions that a reader must believe, and tests of them by rows that proofs use.
 pub mod Kind
 pub mod Walk
 pub mod Link

@@ -1,4 +1,4 @@
--- What a program tests of two places: the rows of the slanted field between them.
+-- Two places that are joined directly, by rows: the rows of the slanted field between them.
 -- The field has its corner at s, its rows go k straight steps in the direction c, and there are n + 1 of them, each one diagonal step d further.
 -- Assumes nothing.
 use mathlib.Core.Path.{_≡_}

@@ -1,4 +1,4 @@
--- The test by rows, as a program computes it, whether two places are joined directly.
+-- A test by rows whether two places are joined directly, for proofs that compute it (the worked sums).
 -- Assumes nothing.
 use mathlib.Core.Bool.{Bool, not, _&&_}
 use mathlib.Core.List.{List, [], _∷_}

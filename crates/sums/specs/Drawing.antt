@@ -1,4 +1,4 @@
--- A floor drawn with letters, as document 01's listing has it, and the words that hold it: for floors of at most 64 columns.
+-- A floor drawn with letters, as document 01's listing has it, with `o` for `.`, and the words that hold it: for floors of at most 64 columns.
 use Prim.Native.Nat.{ℕ, _+_, _*_, _-_, _^_}
 use mathlib.Core.List.{List, [], _∷_}
 
