@@ -6,7 +6,7 @@ ghost use lib.Dec.{eqb, ltb};
 ghost use lib.ListN.{length, getD, set};
 ghost use Rattle.floor.specs.Board.{at};
 ghost use Rattle.floor.specs.Refusals.{Tells};
-ghost use Rattle.floor.specs.Words.{board, placeOf, numberOf, Floor};
+ghost use Rattle.floor.specs.Words.{board, placeOf, numberOf, Floor, IsRow};
 ghost use Rattle.marks.specs.Lists.{written};
 ghost use Rattle.marks.specs.Marks.{cornerCell, cornerCells, Cleared};
 ghost use Rattle.marks.specs.Marking.{byNext, MarkedWays, MarkedAll};
@@ -59,9 +59,10 @@ pub fn clearance(clear: &[u8], w: usize, x: usize, y: usize, dir: usize) -> usiz
     clear[4 * (y * w + x) + dir] as usize
 }
 
-// The clearance of cell (x, y) by that of the next cell in the direction.
+// The clearance of cell (x, y), whose row is lent too, by that of the next cell in the direction.
 fn clearance_by_next(
     words: &[u64],
+    row: &[u64],
     w: usize,
     h: usize,
     clear: &[u8],
@@ -69,13 +70,14 @@ fn clearance_by_next(
     y: usize,
     dir: usize,
 ) -> usize
-    requires { ⌜ Floor w h (now words) × ((4 * (w * h) ≤ length (now clear)) × ((x < w) × ((y < h) × (dir < 4)))) ⌝ }
+    requires ready { ⌜ Floor w h (now words) × ((4 * (w * h) ≤ length (now clear)) × ((x < w) × ((y < h) × (dir < 4)))) ⌝ }
+    requires row { ⌜ IsRow w (now words) y (now row) ⌝ }
     ensures { λ r. ⌜ r ≡ byNext (board w h (now (words .entry))) w (now (clear .entry)) (at x y) dir ⌝ }
 {
     let o = floor::in_window(dir);
     let i = o[0];
     let j = o[1];
-    if floor::free_at(words, w, h, x + 1, y + 1) & floor::free_at(words, w, h, x + i, y + j) {
+    if floor::cell_free(row, x) & floor::free_at(words, w, h, x + i, y + j) {
         let nx = x + i - 1;
         let ny = y + j - 1;
         if floor::corner_at(words, w, h, nx, ny) {
@@ -93,7 +95,9 @@ fn mark_one(words: &[u64], w: usize, h: usize, clear: &mut [u8], cell: usize, di
     requires { ⌜ Floor w h (now words) × ((4 * (w * h) ≤ length (now clear)) × ((cell < w * h) × ((dir < 4) × (byNext (board w h (now words)) w (now clear) (placeOf w cell) dir ≤ 255)))) ⌝ }
     ensures { λ r. ⌜ now (clear .exit) ≡ set (now (clear .entry)) (4 * cell + dir) (byNext (board w h (now (words .entry))) w (now (clear .entry)) (placeOf w cell) dir) ⌝ }
 {
-    let m = clearance_by_next(words, w, h, clear, cell % w, cell / w, dir);
+    let y = cell / w;
+    let row = floor::row_of(words, w, h, y);
+    let m = clearance_by_next(words, row, w, h, clear, cell % w, y, dir);
     clear[4 * cell + dir] = m as u8;
 }
 
@@ -139,7 +143,8 @@ fn one_matches(words: &[u64], w: usize, h: usize, clear: &[u8], cell: usize, dir
 {
     let x = cell % w;
     let y = cell / w;
-    clearance(clear, w, x, y, dir) == clearance_by_next(words, w, h, clear, x, y, dir)
+    let row = floor::row_of(words, w, h, y);
+    clearance(clear, w, x, y, dir) == clearance_by_next(words, row, w, h, clear, x, y, dir)
 }
 
 // Whether the list holds the clearances of all cells. It has four entries to a cell.

@@ -3,13 +3,13 @@
 use Prim.Native.Nat.{_+_, _-_, _*_}
 use mathlib.Core.Bool.{_&&_}
 use mathlib.Core.Path.{_≡_, sym, ap, ap₂, _∙_}
-use native.Mathlib.Numerals.{add-one}
 use native.Mathlib.Omega.{arith}
 use denote.Ref.{now}
 use borrow.Author.Needs.{needs}
 use lib.ListN.{getD}
 use Rattle.floor.specs.Board.{Board, Place, at, Free, dirAt, go, corner}
-use Rattle.floor.specs.Words.{board, numberOf}
+use Rattle.floor.specs.Words.{bitFree, board, numberOf}
+use Rattle.floor.proofs.Places.{cell-free}
 use Rattle.ground.proofs.Logic.{and-left, and-right}
 use Rattle.marks.specs.Marking.{entryAt}
 use Rattle.marks.proofs.Cells.{within, number-in}
@@ -19,34 +19,37 @@ use Rattle.marks.proofs.clearance_by_next.Statement.{statement}
 use Rattle.marks.proofs.clearance_by_next.Tie as tie
 
 -- the function's entry
-abbrev entry : tie.After-free-at2 → tie.Start
-entry c = c .before .before .before .before .before
+abbrev entry : tie.After-free-at → tie.Start
+entry c = c .before .before .before .before .before .before
 
 -- the board, the cell's place, and the next place in the direction
-abbrev floor : tie.After-free-at2 → Board
+abbrev floor : tie.After-free-at → Board
 floor c = board (entry c .args .w) (entry c .args .h) (now (entry c .args .words))
 
-abbrev this : tie.After-free-at2 → Place
+abbrev this : tie.After-free-at → Place
 this c = at (entry c .args .x) (entry c .args .y)
 
-abbrev that : tie.After-free-at2 → Place
+abbrev that : tie.After-free-at → Place
 that c = go (dirAt (entry c .args .dir)) (this c)
 
 -- the two tests look at the two places
-first-test : (c : tie.After-free-at2) → c .before .free-at .result ≡ floor c (this c .x) (this c .y)
-first-test c = let a = entry c .args in rw (add-one (a .x), add-one (a .y)) at (c .before .free-at .ensures)
+first-test : (c : tie.After-free-at) → c .before .cell-free .result ≡ floor c (this c .x) (this c .y)
+first-test c =
+    let a = entry c .args in
+    let p = entry c .pre in
+    c .before .cell-free .ensures ∙ ap (λ row. bitFree row (a .x)) (p .1 .same) ∙ sym (cell-free (a .w) (a .h) (now (a .words)) (a .x) (a .y) (p .0 .1 .1 .0) (p .0 .1 .1 .1 .0))
 
-second-test : (c : tie.After-free-at2) → c .free-at2 .result ≡ floor c (that c .x) (that c .y)
+second-test : (c : tie.After-free-at) → c .free-at .result ≡ floor c (that c .x) (that c .y)
 second-test c =
     let a = entry c .args in
-    c .free-at2 .ensures ∙ beside (dirAt (a .dir)) (a .x) (a .y) (c .before .before .in-window .result) (c .before .before .in-window .ensures) (floor c)
+    c .free-at .ensures ∙ beside (dirAt (a .dir)) (a .x) (a .y) (c .before .before .in-window .result) (c .before .before .in-window .ensures) (floor c)
 
 -- so where they pass both are free
 this-free : (c : tie.Then1) → Free (floor (c .before)) (this (c .before))
 this-free c = sym (first-test (c .before)) ∙ and-left _ _ (c .if1 .taken)
 
 that-free : (c : tie.Then1) → Free (floor (c .before)) (that (c .before))
-that-free c = sym (second-test (c .before)) ∙ and-right (c .before .before .free-at .result) _ (c .if1 .taken)
+that-free c = sym (second-test (c .before)) ∙ and-right (c .before .before .cell-free .result) _ (c .if1 .taken)
 
 -- and the code's column and row are those of the next place
 next : (c : tie.Then1) →
@@ -55,10 +58,13 @@ next : (c : tie.Then1) →
     Neighbour (a .w) (a .h) (dirAt (a .dir)) (a .x) (a .y) (getD o 0 0) (getD o 1 0)
 next c = neighbour (within _ _ _) _ _ _ _ (c .before .before .before .in-window .ensures) (that-free c)
 
+cell-free-requires : tie.Need-cell-free-requires
+cell-free-requires c κs = search needs
+
 corner-at-requires : tie.Need-corner-at-requires
 corner-at-requires c κs =
     let n = next c in
-    (entry (c .before) .pre .0 .sized, (omega arith, omega arith))
+    (entry (c .before) .pre .0 .0 .sized, (omega arith, omega arith))
 
 clearance-requires : tie.Need-clearance-requires
 clearance-requires c κs =
@@ -71,7 +77,7 @@ add-result c =
     let s = c .before .before .before .before in
     let a = entry s .args in
     let o = s .before .before .in-window .result in
-    let k = s .before .before .before .shared-slice-known2 .given (4 * numberOf (a .w) (a .x + getD o 0 0 - 1) (a .y + getD o 1 0 - 1) + a .dir) in
+    let k = s .before .before .before .shared-slice-known3 .given (4 * numberOf (a .w) (a .x + getD o 0 0 - 1) (a .y + getD o 1 0 - 1) + a .dir) in
     omega (arith, c .clearance .ensures, k)
 
 -- the third test looks at the next place
@@ -101,9 +107,7 @@ clearance-by-next-spec =
     (search needs)
     (search needs)
     (search needs)
-    (search needs)
-    (search needs)
-    (search needs)
+    cell-free-requires
     (search needs)
     (search needs)
     (search needs)
