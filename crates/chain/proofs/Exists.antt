@@ -22,7 +22,7 @@ use Rattle.ground.proofs.LineEnds.{line-end}
 use Rattle.ground.proofs.Bounded.{shortest-or-none}
 use Rattle.effort.specs.Effort.{PlaceCell, Far}
 use Rattle.effort.specs.Net.{Trip, Joined, Precedes}
-use Rattle.effort.proofs.Cells.{within}
+use Rattle.ground.proofs.Numbers.{within}
 use Rattle.effort.proofs.Bridge.{goal-place}
 use Rattle.effort.proofs.Before.{place-before, before-nearer}
 use Rattle.line.specs.Cells.{after, legs}

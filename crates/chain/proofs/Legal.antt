@@ -4,17 +4,17 @@ use Prim.Native.Nat.{ℕ, suc, _+_, _*_, _<_}
 use mathlib.Core.Path.{_≡_, refl, sym, _∙_, ap, subst}
 use mathlib.Core.List.{List, [], _∷_, _++_, append-nil, append-assoc}
 use mathlib.Core.Logic.{inl, inr, ⊎-elim}
-use native.Mathlib.Nat.{div-add-mod'}
 use native.Mathlib.Omega.{arith}
 use lib.ListN.{length}
 use Rattle.lengths.specs.Lengths.{Len, 𝟎, _⊕_}
 use Rattle.lengths.specs.Laws.{𝟎-least}
-use Rattle.floor.specs.Board.{Place, Dir, Free, go}
-use Rattle.floor.specs.Words.{board, placeOf}
+use Rattle.floor.specs.Board.{Place, Dir, go}
+use Rattle.floor.specs.Words.{board, placeOf, cellOf}
 use Rattle.ground.specs.Kind.{walkers}
 use Rattle.ground.specs.Walk.{end, Legal, Walk, len}
 use Rattle.ground.specs.Line.{line}
 use Rattle.ground.proofs.Axes.{counts}
+use Rattle.ground.proofs.Numbers.{number-of-cell, within, free-cell}
 use Rattle.ground.proofs.Walks.{start-free, walk-append, shortest-unique}
 use Rattle.ground.proofs.Lines.{direct-line}
 use Rattle.ground.proofs.LineEnds.{line-end, line-len}
@@ -22,19 +22,9 @@ use Rattle.ground.proofs.Least.{line-shortest}
 use Rattle.plan.specs.Rising.{In}
 use Rattle.effort.specs.Effort.{Far}
 use Rattle.effort.specs.Net.{Trip}
-use Rattle.effort.proofs.Cells.{within, cell-of}
-use Rattle.line.specs.Cells.{cellOf, after, legs}
+use Rattle.line.specs.Cells.{after, legs}
+use Rattle.line.proofs.Legs.{after-length, after-append}
 use Rattle.chain.specs.Route.{ChainTo, here, back, RouteOf, cellsOf}
-
--- the cells of two walks in a row
-pub after-append : (w : ℕ) (p : Place) (ds es : List Dir) → after w p (ds ++ es) ≡ after w p ds ++ after w (end p ds) es
-after-append w p [] es = refl
-after-append w p (d ∷ ds) es = ap (λ (cs : List ℕ). cellOf w (go d p) ∷ cs) (after-append w (go d p) ds es)
-
--- a walk comes to as many cells as it has steps
-pub after-length : (w : ℕ) (p : Place) (ds : List Dir) → length (after w p ds) ≡ length ds
-after-length w p [] = refl
-after-length w p (d ∷ ds) = ap suc (after-length w (go d p) ds)
 
 -- one place more in a chain adds the leg to it
 pub legs-snoc :
@@ -51,10 +41,6 @@ legs-snoc w (a ∷ b ∷ front) u v =
     ap (λ (cs : List ℕ). leg ++ cs) (legs-snoc w (b ∷ front) u v)
     ∙ sym (append-assoc leg (legs w (b ∷ (front ++ (u ∷ [])))) (after w (placeOf w u) (line (placeOf w u) (placeOf w v))))
 
--- the place of a cell has its number
-pub place-cell : (w c : ℕ) → cellOf w (placeOf w c) ≡ c
-place-cell w c = div-add-mod' c w
-
 -- a walk comes last to the cell at its end
 pub after-last : (w : ℕ) (p : Place) (ds : List Dir) → (front : List ℕ) × (cellOf w p ∷ after w p ds ≡ front ++ (cellOf w (end p ds) ∷ []))
 after-last w p [] = ([], refl)
@@ -63,17 +49,11 @@ after-last w p (d ∷ ds) =
     (cellOf w p ∷ front, ap (λ (cs : List ℕ). cellOf w p ∷ cs) e)
 
 module _ (w h : ℕ) (words : List ℕ) where
-  -- a free place has the number of a cell of the floor
-  pub free-inside : (p : Place) → Free (board w h words) p → cellOf w p < w * h
-  free-inside p f =
-      let (c, k, e) = cell-of w h words p f in
-      subst (λ (x : ℕ). x < w * h) (sym (place-cell w c) ∙ ap (cellOf w) e) k
-
   -- a legal walk comes to cells of the floor only
   pub after-inside : (p : Place) (ds : List Dir) → Legal walkers (board w h words) p ds → (c : ℕ) → In c (after w p ds) → c < w * h
   after-inside p [] l c i = absurd i
   after-inside p (d ∷ ds) l c (inl e) =
-      subst (λ (x : ℕ). x < w * h) (sym e) (free-inside (go d p) (start-free walkers (board w h words) (go d p) ds (l .2)))
+      subst (λ (x : ℕ). x < w * h) (sym e) (free-cell (within w h words) (go d p) (start-free walkers (board w h words) (go d p) ds (l .2)))
   after-inside p (d ∷ ds) l c (inr i) = after-inside (go d p) ds (l .2) c i
 
 module _ (w h : ℕ) (words : List ℕ) (start goal : ℕ) where
@@ -144,10 +124,10 @@ module _ (w h : ℕ) (words : List ℕ) (start goal : ℕ) (trip : Trip w h word
       let (front, q) = after-last w (placeOf w start) ds in (
         front,
         k
-            ∙ ap (λ (c : ℕ). c ∷ after w (placeOf w start) ds) (sym (place-cell w start))
+            ∙ ap (λ (c : ℕ). c ∷ after w (placeOf w start) ds) (sym (number-of-cell w start))
             ∙ q
             ∙ ap (λ (p : Place). front ++ (cellOf w p ∷ [])) (a .1)
-            ∙ ap (λ (c : ℕ). front ++ (c ∷ [])) (place-cell w goal),
+            ∙ ap (λ (c : ℕ). front ++ (c ∷ [])) (number-of-cell w goal),
       )
 
   -- It lists cells of the floor only.

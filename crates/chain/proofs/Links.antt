@@ -1,39 +1,31 @@
 -- The links of a charted trip, by index, are those of Definition 2 between its places. Assumes nothing.
-use Prim.Native.Nat.{ℕ, suc, _+_, _-_, _≤_, _<_}
-use mathlib.Core.Bool.{Bool, true, false, cond}
+use Prim.Native.Nat.{ℕ, suc, _+_, _-_, _<_}
 use mathlib.Core.List.{List}
 use mathlib.Core.Logic.{_⊎_, inl, inr, ⊎-elim, _≢_}
 use mathlib.Core.Path.{_≡_, refl, sym, _∙_, ap, subst, subst₂}
 use native.Mathlib.Numerals.{add-one}
 use native.Mathlib.Omega.{arith}
-use lib.Dec.{ltb}
 use lib.ListN.{length, getD}
-use borrow.Author.Tests.{ltb-true, lt-ltb, le-ltb, eq-eqb, ne-eqb}
+use borrow.Author.Tests.{lt-ltb}
 use Rattle.floor.specs.Words.{placeOf}
 use Rattle.ground.specs.Kind.{walkers}
 use Rattle.ground.proofs.Lines.{direct-line}
 use Rattle.ground.proofs.Reverse.{direct-back}
 use Rattle.ground.proofs.Walkers.{walker-ways}
 use Rattle.plan.specs.Plan.{Lists, LinkedCells}
+use Rattle.plan.proofs.Risings.{at-in}
 use Rattle.effort.specs.Net.{Joined}
-use Rattle.effort.proofs.Cells.{same-cell, within}
+use Rattle.ground.proofs.Numbers.{same-cell, within}
 use Rattle.search.specs.Places.{indexOf}
-use Rattle.search.specs.Chart.{Chart, flagged, arcsOf, arcs, cornerLink, linkAt, countOf, linkCount, cell, net}
+use Rattle.search.specs.Chart.{Chart, flagged, arcsOf, arcs, cornerLink, countOf, linkCount, cell, net}
+use Rattle.search.proofs.Cells.{index-at, index-of-entry}
+use Rattle.search.proofs.Links.{flag-some, corner-arc, corner-start, corner-goal, link-corner, link-start, link-goal, count-end}
 use Rattle.chain.specs.Charted.{DirectCells, Charted, Used}
-use Rattle.chain.proofs.Entries.{at-in, in-index, index-hit, index-at}
+use Rattle.chain.proofs.Entries.{in-index}
 use Rattle.chain.proofs.Corners.{corners-ascend, neighbour-linked, linked-neighbour}
 use Rattle.chain.proofs.Places.{stands, cell-corner, cell-start, cell-beyond, cell-goal, corner-within, corner-turns, cell-place, start-own, goal-own, corner-no-start, corner-no-goal}
 
--- what a flag says: it is set
-flagged-set : (L : List ℕ) (i place v : ℕ) → flagged L i place ≡ v + 1 → (0 < getD L i 0) × (v ≡ place)
-unfolding flagged
-flagged-set L i place v = by (ltb 0 (getD L i 0)) refl
-  where
-    by : (b : Bool) → ltb 0 (getD L i 0) ≡ b → cond b (place + 1) 0 ≡ v + 1 → (0 < getD L i 0) × (v ≡ place)
-    by true e q = (ltb-true 0 (getD L i 0) e, omega arith)
-    by false e q = absurd (omega arith)
-
--- and one that is set says it
+-- a flag that is set leads to its place
 set-flagged : (L : List ℕ) (i place : ℕ) → 0 < getD L i 0 → flagged L i place ≡ place + 1
 unfolding flagged
 set-flagged L i place l = rw (lt-ltb 0 (getD L i 0) l)
@@ -47,44 +39,12 @@ pub joined-turned : {w h : ℕ} {words : List ℕ} {start goal : ℕ} {a b : ℕ
 joined-turned {w} {h} {words} {a = a} {b = b} j =
     record { from = j .to; to = j .from; two = λ e. j .two (sym e); direct = direct-turned w h words a b (j .direct) }
 
--- how a chart lists links
+-- what a chart links
 module _ (𝓒 : Chart) where
-  -- a corner's neighbours come first
-  link-neighbour :
-      (u j : ℕ) → u < 𝓒 .trip .k → j < arcs 𝓒 u →
-      linkAt 𝓒 u j ≡ indexOf (𝓒 .corners) (getD (𝓒 .neighbours) (getD (𝓒 .starts) u 0 + j) 0) + 1
-  unfolding linkAt cornerLink
-  link-neighbour u j l m = rw (lt-ltb u (𝓒 .trip .k) l, lt-ltb j (arcs 𝓒 u) m)
-
-  -- then the start
-  link-start : (u j : ℕ) → u < 𝓒 .trip .k → j ≡ arcs 𝓒 u → linkAt 𝓒 u j ≡ flagged (𝓒 .by-start) u (𝓒 .trip .k)
-  unfolding linkAt cornerLink
-  link-start u j l e = rw (lt-ltb u (𝓒 .trip .k) l, le-ltb j (arcs 𝓒 u) (omega arith), eq-eqb j (arcs 𝓒 u) e)
-
-  -- then the goal
-  link-goal : (u j : ℕ) → u < 𝓒 .trip .k → arcs 𝓒 u < j → linkAt 𝓒 u j ≡ flagged (𝓒 .by-goal) u (𝓒 .trip .k + 1)
-  unfolding linkAt cornerLink
-  link-goal u j l m = rw (lt-ltb u (𝓒 .trip .k) l, le-ltb j (arcs 𝓒 u) (omega arith), ne-eqb j (arcs 𝓒 u) (λ e. omega arith))
-
-  -- the start is linked to the corners that have its flag
-  link-of-start : (j : ℕ) → linkAt 𝓒 (𝓒 .trip .k) j ≡ flagged (𝓒 .by-start) j j
-  unfolding linkAt
-  link-of-start j = rw (le-ltb (𝓒 .trip .k) (𝓒 .trip .k) (omega arith), eq-eqb (𝓒 .trip .k) (𝓒 .trip .k) refl)
-
-  -- the goal to those that have its own
-  link-of-goal : (u j : ℕ) → 𝓒 .trip .k < u → linkAt 𝓒 u j ≡ flagged (𝓒 .by-goal) j j
-  unfolding linkAt
-  link-of-goal u j l = rw (le-ltb u (𝓒 .trip .k) (omega arith), ne-eqb u (𝓒 .trip .k) (λ e. omega arith))
-
-  -- there are two more than neighbours to look at
+  -- a corner has two more than its neighbours to look at
   count-corner : (u : ℕ) → u < 𝓒 .trip .k → linkCount 𝓒 u ≡ arcs 𝓒 u + 2
   unfolding countOf
   count-corner u l = rw (lt-ltb u (𝓒 .trip .k) l)
-
-  -- or all corners
-  count-own : (u : ℕ) → 𝓒 .trip .k ≤ u → linkCount 𝓒 u ≡ 𝓒 .trip .k
-  unfolding countOf
-  count-own u l = rw (le-ltb u (𝓒 .trip .k) l)
 
   -- what a corner u is linked to: its neighbours, and by a flag start and goal
   abbrev CornerLinks : ℕ → ℕ → Type 0
@@ -95,48 +55,60 @@ module _ (𝓒 : Chart) where
   -- a link of a corner is one of these
   corner-links : (u v : ℕ) → u < 𝓒 .trip .k → net 𝓒 .Link u v → CornerLinks u v
   corner-links u v l (j, m, e) =
-      ⊎-elim (λ (a : j < arcs 𝓒 u). inl (j, a, let q = sym (link-neighbour u j l a) ∙ e in omega arith))
+      ⊎-elim (λ (a : j < arcs 𝓒 u). inl (j, a, let q = sym (corner-arc 𝓒 u j a) ∙ f in omega arith))
       (⊎-elim
-      (λ (a : j ≡ arcs 𝓒 u). let q = flagged-set (𝓒 .by-start) u (𝓒 .trip .k) v (sym (link-start u j l a) ∙ e) in inr (inl (q .1, q .0)))
-      (λ (a : arcs 𝓒 u < j). let q = flagged-set (𝓒 .by-goal) u (𝓒 .trip .k + 1) v (sym (link-goal u j l a) ∙ e) in inr (inr (q .1, q .0))))
+      (λ (a : j ≡ arcs 𝓒 u). let q = flag-some (𝓒 .by-start) u (𝓒 .trip .k) v (sym (corner-start 𝓒 u j a) ∙ f) in inr (inl (sym (q .1), q .0)))
+      (λ (a : arcs 𝓒 u < j). let q = flag-some (𝓒 .by-goal) u (𝓒 .trip .k + 1) v (sym (corner-goal 𝓒 u j a) ∙ f) in inr (inr (sym (q .1), q .0))))
       (stands j (arcs 𝓒 u))
+    where
+      f : cornerLink 𝓒 u j ≡ v + 1
+      f = sym (link-corner 𝓒 u j l) ∙ e
 
   -- and each of these is a link
   links-corner : (u v : ℕ) → u < 𝓒 .trip .k → CornerLinks u v → net 𝓒 .Link u v
   links-corner u v l (inl (j, a, e)) =
-      (j, (let c = count-corner u l in omega arith), link-neighbour u j l a ∙ ap (λ (x : ℕ). x + 1) e)
+      (j, (let c = count-corner u l in omega arith), link-corner 𝓒 u j l ∙ corner-arc 𝓒 u j a ∙ ap (λ (x : ℕ). x + 1) e)
   links-corner u v l (inr (inl (e, f))) = (
     arcs 𝓒 u,
     (let c = count-corner u l in omega arith),
-    link-start u (arcs 𝓒 u) l refl ∙ set-flagged (𝓒 .by-start) u (𝓒 .trip .k) f ∙ ap (λ (x : ℕ). x + 1) (sym e),
+    link-corner 𝓒 u (arcs 𝓒 u) l
+        ∙ corner-start 𝓒 u (arcs 𝓒 u) refl
+        ∙ set-flagged (𝓒 .by-start) u (𝓒 .trip .k) f
+        ∙ ap (λ (x : ℕ). x + 1) (sym e),
   )
   links-corner u v l (inr (inr (e, f))) = (
     arcs 𝓒 u + 1,
     (let c = count-corner u l in omega arith),
-    link-goal u (arcs 𝓒 u + 1) l (omega arith) ∙ set-flagged (𝓒 .by-goal) u (𝓒 .trip .k + 1) f ∙ ap (λ (x : ℕ). x + 1) (sym e),
+    link-corner 𝓒 u (arcs 𝓒 u + 1) l
+        ∙ corner-goal 𝓒 u (arcs 𝓒 u + 1) (omega arith)
+        ∙ set-flagged (𝓒 .by-goal) u (𝓒 .trip .k + 1) f
+        ∙ ap (λ (x : ℕ). x + 1) (sym e),
   )
 
   -- a link of the start's own place leads to a corner with its flag
   start-links : (v : ℕ) → net 𝓒 .Link (𝓒 .trip .k) v → (v < 𝓒 .trip .k) × (0 < getD (𝓒 .by-start) v 0)
   start-links v (j, m, e) =
-      let q = flagged-set (𝓒 .by-start) j j v (sym (link-of-start j) ∙ e) in
-      let i : j ≡ v = sym (q .1) in
-      subst (λ (x : ℕ). (x < 𝓒 .trip .k) × (0 < getD (𝓒 .by-start) x 0)) i ((let c = count-own (𝓒 .trip .k) (omega arith) in omega arith), q .0)
+      let q = flag-some (𝓒 .by-start) j j v (sym (link-start 𝓒 (𝓒 .trip .k) j refl) ∙ e) in
+      subst (λ (x : ℕ). (x < 𝓒 .trip .k) × (0 < getD (𝓒 .by-start) x 0)) (q .1)
+      ((let c = count-end 𝓒 (𝓒 .trip .k) (omega arith) in omega arith), q .0)
 
   -- and each such corner is linked
   links-start : (v : ℕ) → v < 𝓒 .trip .k → 0 < getD (𝓒 .by-start) v 0 → net 𝓒 .Link (𝓒 .trip .k) v
-  links-start v l f = (v, (let c = count-own (𝓒 .trip .k) (omega arith) in omega arith), link-of-start v ∙ set-flagged (𝓒 .by-start) v v f)
+  links-start v l f = (
+    v,
+    (let c = count-end 𝓒 (𝓒 .trip .k) (omega arith) in omega arith),
+    link-start 𝓒 (𝓒 .trip .k) v refl ∙ set-flagged (𝓒 .by-start) v v f,
+  )
 
   -- a link of the goal's own place leads to a corner with its flag
   goal-links : (u v : ℕ) → 𝓒 .trip .k < u → net 𝓒 .Link u v → (v < 𝓒 .trip .k) × (0 < getD (𝓒 .by-goal) v 0)
   goal-links u v l (j, m, e) =
-      let q = flagged-set (𝓒 .by-goal) j j v (sym (link-of-goal u j l) ∙ e) in
-      let i : j ≡ v = sym (q .1) in
-      subst (λ (x : ℕ). (x < 𝓒 .trip .k) × (0 < getD (𝓒 .by-goal) x 0)) i ((let c = count-own u (omega arith) in omega arith), q .0)
+      let q = flag-some (𝓒 .by-goal) j j v (sym (link-goal 𝓒 u j l) ∙ e) in
+      subst (λ (x : ℕ). (x < 𝓒 .trip .k) × (0 < getD (𝓒 .by-goal) x 0)) (q .1) ((let c = count-end 𝓒 u (omega arith) in omega arith), q .0)
 
   -- and each such corner is linked
   links-goal : (u v : ℕ) → 𝓒 .trip .k < u → v < 𝓒 .trip .k → 0 < getD (𝓒 .by-goal) v 0 → net 𝓒 .Link u v
-  links-goal u v l m f = (v, (let c = count-own u (omega arith) in omega arith), link-of-goal u v l ∙ set-flagged (𝓒 .by-goal) v v f)
+  links-goal u v l m f = (v, (let c = count-end 𝓒 u (omega arith) in omega arith), link-goal 𝓒 u v l ∙ set-flagged (𝓒 .by-goal) v v f)
 
 module _ {w h : ℕ} {words : List ℕ} {p : Lists} {start goal : ℕ} {𝓒 : Chart} (ch : Charted w h words p start goal 𝓒) where
   -- how many neighbours a corner has
@@ -156,7 +128,7 @@ module _ {w h : ℕ} {words : List ℕ} {p : Lists} {start goal : ℕ} {𝓒 : C
       let (i, k) = neighbour-linked (ch .fits .own) u (getD (p .starts) u 0 + j) (corner-within ch l) (omega arith) (omega arith) in
       let n : indexOf (p .corners) t < length (p .corners) = in-index (p .corners) t i in
       let inside : v < 𝓒 .trip .k = let c = ch .count in omega arith in
-      let there : cell 𝓒 v ≡ t = cell-corner ch v inside ∙ ap (λ (x : ℕ). getD (p .corners) x 0) (sym e′) ∙ index-hit (p .corners) t n in
+      let there : cell 𝓒 v ≡ t = cell-corner ch v inside ∙ ap (λ (x : ℕ). getD (p .corners) x 0) (sym e′) ∙ index-at (p .corners) t n in
       (inside, subst₂ (λ (x y : ℕ). LinkedCells walkers w h words x y) (sym (cell-corner ch u l)) (sym there) k)
 
   -- the chart lists the neighbours of the plan
@@ -177,7 +149,7 @@ module _ {w h : ℕ} {words : List ℕ} {p : Lists} {start goal : ℕ} {𝓒 : C
         j,
         omega arith,
         listed u j v
-            (ap (indexOf (p .corners)) e ∙ index-at (p .corners) (corners-ascend (ch .fits .own)) v (corner-within ch m)),
+            (ap (indexOf (p .corners)) e ∙ index-of-entry (p .corners) (corners-ascend (ch .fits .own)) v (corner-within ch m)),
       )
 
   -- two different places that are direct are joined

@@ -17,8 +17,8 @@ use Rattle.effort.specs.Net.{Trip, apart as weighs}
 use Rattle.effort.proofs.Bridge.{trip-of, start-place, goal-place}
 use Rattle.search.specs.Places.{indexOf, cellOf, apart}
 use Rattle.search.specs.Chart.{Chart, cell}
+use Rattle.search.proofs.Cells.{index-at, ascending-once}
 use Rattle.chain.specs.Charted.{Charted, Used}
-use Rattle.chain.proofs.Entries.{index-hit, ascending-same}
 use Rattle.chain.proofs.Corners.{corners-ascend, corner-at, corner-index}
 
 -- The two crates say alike how far two cells are apart.
@@ -96,7 +96,7 @@ module _ {w h : ℕ} {words : List ℕ} {p : Lists} {start goal : ℕ} {𝓒 : C
   turn-index c l t =
       let m = corner-index (ch .fits .own) c l t in
       let n : indexOf (p .corners) c < 𝓒 .trip .k = let e = ch .count in omega arith in
-      (n, cell-corner (indexOf (p .corners) c) n ∙ index-hit (p .corners) c m)
+      (n, cell-corner (indexOf (p .corners) c) n ∙ index-at (p .corners) c m)
 
   -- where the start is a corner it stands at that corner's index
   pub from-known : cornerCell w h words start ≡ true → (𝓒 .trip .from < 𝓒 .trip .k) × (cell 𝓒 (𝓒 .trip .from) ≡ start)
@@ -150,7 +150,7 @@ module _ {w h : ℕ} {words : List ℕ} {p : Lists} {start goal : ℕ} {𝓒 : C
   -- the cells of corners tell them
   corners-same : (u v : ℕ) → u < 𝓒 .trip .k → v < 𝓒 .trip .k → cell 𝓒 u ≡ cell 𝓒 v → u ≡ v
   corners-same u v l m e =
-      ascending-same (p .corners) (corners-ascend (ch .fits .own)) u v (corner-within l) (corner-within m)
+      ascending-once (p .corners) (corners-ascend (ch .fits .own)) u v (corner-within l) (corner-within m)
       (sym (cell-corner u l) ∙ e ∙ cell-corner v m)
 
   -- no corner has the cell of a start with a place of its own

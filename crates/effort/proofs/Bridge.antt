@@ -10,10 +10,12 @@ use native.Mathlib.Omega.{arith}
 use Rattle.lengths.specs.Lengths.{Len, 𝟎, _≼_}
 use Rattle.lengths.specs.Laws.{weight, ≼-antisym, 𝟎-least}
 use Rattle.floor.specs.Board.{Place, Dir, Free, corner}
-use Rattle.floor.specs.Words.{Floor, board, placeOf}
+use Rattle.floor.specs.Words.{Floor, board, placeOf, cellOf}
 use Rattle.ground.specs.Kind.{walkers, octile}
 use Rattle.ground.specs.Walk.{Walk, len}
 use Rattle.ground.specs.Link.{Direct, Chain as GroundChain, last, join}
+use Rattle.ground.proofs.Cells.{corner-free}
+use Rattle.ground.proofs.Numbers.{same-cell, within, free-cell, place-of-free}
 use Rattle.ground.proofs.Walks.{walk-append}
 use Rattle.ground.proofs.Choose.{place-discrete}
 use Rattle.ground.proofs.Chains.{shortest-chain}
@@ -25,7 +27,7 @@ use Rattle.settling.proofs.Back.{shortest-unique}
 use Rattle.settling.proofs.Instances.{nearest-consistent}
 use Rattle.effort.specs.Effort.{PlaceCell, Far}
 use Rattle.effort.specs.Net.{by-cell, apart, Trip, Joined, netOf}
-use Rattle.effort.proofs.Cells.{corner-free, same-cell, apart-positive, within, cell-of}
+use Rattle.effort.proofs.Cells.{apart-positive}
 use Rattle.effort.proofs.Weights.{weight-sum, weighs-≼, ≼-by-weight, same-weight}
 
 -- a floor that no row refuses, with two cells of it of which the first is free, makes a trip
@@ -73,9 +75,11 @@ module _ (w h : ℕ) (words : List ℕ) (start goal : ℕ) where
       Chain (netOf w h words start goal) v (d + weight l)
   chain-on (last {s = s} {t = t} n k) u v d pu pv eu ev c = link-on s t n k u v d pu pv eu ev c
   chain-on (join {s = s} {p = p} {t = t} {l = l} n k turns r) u v d pu pv eu ev c =
-      let (x, inside, ex) = cell-of w h words p (corner-free (board w h words) p turns) in
+      let free = corner-free (board w h words) p turns in
+      let x : ℕ = cellOf w p in
+      let ex : placeOf w x ≡ p = place-of-free (within w h words) p free in
       let px : PlaceCell w h words start goal x =
-      record { inside = inside; one-of = inl (subst (λ (q : Place). corner (board w h words) q ≡ true) (sym ex) turns) } in
+      record { inside = free-cell (within w h words) p free; one-of = inl (subst (λ (q : Place). corner (board w h words) q ≡ true) (sym ex) turns) } in
       subst (λ (y : ℕ). Chain (netOf w h words start goal) v y)
       (add-assoc d (weight (octile s p)) (weight l) ∙ ap (λ (y : ℕ). d + y) (sym (weight-sum (octile s p) l)))
       (chain-on r x v (d + weight (octile s p)) px pv ex ev (link-on s p n k u x d pu px eu ex c))

@@ -23,7 +23,7 @@ use Rattle.ground.proofs.Near.{y-moves}
 use Rattle.ground.proofs.Walks.{place-eq}
 use Rattle.ground.proofs.Axes.{end-x, end-y}
 use Rattle.ground.proofs.LineEnds.{hops, travel-replicate}
-use Rattle.marks.proofs.Cells.{within}
+use Rattle.ground.proofs.Numbers.{within}
 use Rattle.fields.proofs.Rays.{ray-free}
 
 -- ---- what is free is a cell

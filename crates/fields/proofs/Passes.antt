@@ -8,19 +8,18 @@ use native.Mathlib.Numerals.{add-one}
 use native.Mathlib.Omega.{arith}
 use lib.ListN.{length, getD}
 use Rattle.floor.specs.Board.{Board, Place, at, Free, Dir, dirAt, go, step, corner}
-use Rattle.floor.specs.Words.{board, numberOf, placeOf}
+use Rattle.floor.specs.Words.{board, numberOf, placeOf, cellOf}
 use Rattle.floor.proofs.Places.{padded}
 use Rattle.ground.specs.Clearance.{ahead, Clearance}
 use Rattle.ground.proofs.Logic.{true-or-false, not-both}
 use Rattle.ground.proofs.Cells.{column-inside, row-inside}
 use Rattle.marks.specs.Marks.{ClearanceAt}
-use Rattle.marks.specs.Marking.{cellOf}
 use Rattle.fields.specs.Fields.{slant, side, Opened, Come, ShowsIn, Standing, begun, ended, NewRow, Said, AllSaid, RowRead, PassedRow}
 use Rattle.fields.specs.declared.Sweep.{Sweep}
 use Rattle.fields.specs.declared.RowEnd.{RowEnd}
 use Rattle.fields.proofs.Rays.{ahead-next, step-free, ray-free}
 use Rattle.fields.proofs.Sweeps.{AtEnd, open-turn, open-wall, opened-more, shows-first, not-behind, only-first, shows-end, only-end, come-more, none-blocked}
-use Rattle.marks.proofs.Cells.{place-of-number, number-in}
+use Rattle.ground.proofs.Numbers.{place-of-number, number-in}
 use Rattle.fields.proofs.Aheads.{column-of-free, row-of-free, few-steps, few-rows}
 
 -- ---- what a row shows, as a number

@@ -9,13 +9,12 @@ use lib.Dec.{ltb}
 use lib.ListN.{length, replicate}
 use Rattle.lengths.specs.Lengths.{gap}
 use Rattle.floor.specs.Board.{Board, Place, at, Free, Dir, dirAt, corner}
-use Rattle.floor.specs.Words.{board, placeOf, Floor}
+use Rattle.floor.specs.Words.{board, placeOf, Floor, cellOf}
 use Rattle.ground.specs.Kind.{walkers}
 use Rattle.ground.specs.Walk.{Legal}
 use Rattle.ground.specs.Rows.{cell, Rows}
 use Rattle.ground.specs.Clearance.{ahead}
 use Rattle.marks.specs.Marks.{Cleared}
-use Rattle.marks.specs.Marking.{cellOf}
 use Rattle.fields.specs.declared.Sweep.{Sweep}
 use Rattle.fields.specs.declared.RowEnd.{RowEnd}
 

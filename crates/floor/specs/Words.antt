@@ -1,5 +1,5 @@
 -- The floor as it is lent: 64-bit words, row by row (01, "The floor"), and the refusals 1, 2 and 3.
-use Prim.Native.Nat.{ℕ, zero, suc, _+_, _*_, _/_, _%_, _^_, _≤_, _<_}
+use Prim.Native.Nat.{ℕ, zero, suc, pred, _+_, _*_, _/_, _%_, _^_, _≤_, _<_}
 use mathlib.Core.Path.{_≡_}
 use mathlib.Core.Bool.{Bool, true, false, _&&_}
 use mathlib.Core.List.{List, [], _∷_}
@@ -35,12 +35,17 @@ unfoldable pub board : ℕ → ℕ → List ℕ → Board
 board w h words x zero = false
 board w h words x (suc y) = ltb y h && freeIn w (rowOf w words y) x
 
--- cell (x, y) of a floor of width w has the number y · w + x; and the place of the cell with a number
+-- cell (x, y) of a floor of width w has the number y · w + x
 abbrev pub numberOf : ℕ → ℕ → ℕ → ℕ
 numberOf w x y = y * w + x
 
+-- the place of the cell with a number
 abbrev pub placeOf : ℕ → ℕ → Place
 placeOf w c = at (c % w) (c / w)
+
+-- the number of the cell at a place
+abbrev pub cellOf : ℕ → Place → ℕ
+cellOf w p = numberOf w (pred (p .x)) (pred (p .y))
 
 -- ---- the refusals
 -- W or H is 0, or W, H or W × H above its limit

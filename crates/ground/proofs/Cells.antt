@@ -38,6 +38,11 @@ module _ {B : Board} (padded : Padded B) where
   pub row-inside : {x y : ℕ} → B x y ≡ true → 0 < y
   row-inside {x} {y} h = above-zero (λ n. B x n) (padded .row x) y h
 
+-- a turning point is free
+pub corner-free : (B : Board) (p : Place) → corner B p ≡ true → Free B p
+unfolding corner
+corner-free B p turns = and-left (B (p .x) (p .y)) _ turns
+
 -- Round the place x, y no diagonal neighbour is blocked behind two free straight ones.
 abbrev pub Smooth : Board → ℕ → ℕ → Type 0
 Smooth B x y =

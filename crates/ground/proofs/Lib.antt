@@ -22,5 +22,6 @@ pub mod Lines
 pub mod RowTest
 pub mod Joined
 pub mod ByClearance
+pub mod Numbers
 pub mod Bounded
 pub mod Certificate

@@ -20,12 +20,12 @@ use Rattle.ground.proofs.Tables.{offset-pair}
 use Rattle.ground.proofs.Walks.{place-eq, len-eq, len-append}
 use Rattle.ground.proofs.Axes.{travel, end-x, end-y}
 
--- the offsets of the direction that has two given offsets, and whether it is diagonal
-compass-dx : (h v : Offset) → dx (compass h v) ≡ h
+-- the direction that has two given offsets: its first offset
+pub compass-dx : (h v : Offset) → dx (compass h v) ≡ h
 compass-dx = offset-pair (λ h v. dx (compass h v) ≡ h) refl refl refl refl refl refl refl refl refl
 
--- its second offset
-compass-dy : (h v : Offset) → (moving h || moving v) ≡ true → dy (compass h v) ≡ v
+-- its second one, if one of them moves
+pub compass-dy : (h v : Offset) → (moving h || moving v) ≡ true → dy (compass h v) ≡ v
 compass-dy =
     offset-pair (λ h v. (moving h || moving v) ≡ true → dy (compass h v) ≡ v)
     (λ m. refl) (λ m. refl) (λ m. refl) (λ m. refl) (λ m. not-both m refl) (λ m. refl) (λ m. refl) (λ m. refl) (λ m. refl)

@@ -11,25 +11,14 @@ use lib.ListN.{length, replicate, length-append, length-replicate}
 use borrow.Author.Tests.{lt-ltb, le-ltb}
 use Rattle.lengths.specs.Lengths.{Len, gap, octileOf}
 use Rattle.lengths.specs.Laws.{le-or-lt}
-use Rattle.floor.specs.Board.{Place, at, Dir, Offset, same, dx, dy, shift, go, moving}
+use Rattle.floor.specs.Board.{Place, at, Dir, Offset, same, shift, go, moving}
 use Rattle.ground.specs.Kind.{octile}
 use Rattle.ground.specs.Line.{toward, compass, diagonal-way, line}
-use Rattle.ground.proofs.Logic.{not-both, or-left, or-right}
-use Rattle.ground.proofs.Tables.{offset-pair}
+use Rattle.ground.proofs.LineEnds.{compass-dx, compass-dy}
+use Rattle.ground.proofs.Logic.{or-left, or-right}
 use Rattle.ground.proofs.Walks.{place-eq}
 use Rattle.line.specs.Cells.{steps}
 use Rattle.line.proofs.Ways.{gap-nearer, way-stays, way-none, way-moves}
-
--- ---- the direction with two offsets
--- its first offset
-compass-dx : (h v : Offset) → dx (compass h v) ≡ h
-compass-dx = offset-pair (λ h v. dx (compass h v) ≡ h) refl refl refl refl refl refl refl refl refl
-
--- its second one, if one of them moves
-compass-dy : (h v : Offset) → (moving h || moving v) ≡ true → dy (compass h v) ≡ v
-compass-dy =
-    offset-pair (λ h v. (moving h || moving v) ≡ true → dy (compass h v) ≡ v)
-    (λ m. refl) (λ m. refl) (λ m. refl) (λ m. refl) (λ m. not-both m refl) (λ m. refl) (λ m. refl) (λ m. refl) (λ m. refl)
 
 -- ---- n steps by a long and a short axis, then k by the long one alone
 -- n times the same, where it is ever taken

@@ -6,10 +6,10 @@ use native.Mathlib.Omega.{arith}
 use lib.ListN.{length, take, drop, length-append}
 use lib.Seq.{length-take-le, take-at, drop-at, drop-drop}
 use Rattle.floor.specs.Board.{Place, Dir, go}
-use Rattle.floor.specs.Words.{placeOf}
+use Rattle.floor.specs.Words.{placeOf, cellOf}
 use Rattle.ground.specs.Walk.{end}
 use Rattle.ground.specs.Line.{line}
-use Rattle.line.specs.Cells.{cellOf, after, legs, steps, Written}
+use Rattle.line.specs.Cells.{after, legs, steps, Written}
 
 -- ---- the cells of a walk
 module _ (w : ℕ) where

@@ -9,12 +9,13 @@ use native.Mathlib.Omega.{arith}
 use lib.ListN.{length, take, drop, set, take-append-drop}
 use lib.Seq.{take-suc-set, drop-set-lt}
 use Rattle.floor.specs.Board.{Board, Place, at, Free, Dir, dirAt, go, step}
+use Rattle.floor.specs.Words.{cellOf}
 use Rattle.ground.specs.Kind.{walkers}
 use Rattle.ground.specs.Walk.{Legal}
 use Rattle.ground.specs.Line.{diagonal-way, line}
 use Rattle.ground.proofs.Logic.{not-both, and-left}
 use Rattle.ground.proofs.Walks.{place-eq}
-use Rattle.line.specs.Cells.{cellOf, after, steps, Nearer, Cell}
+use Rattle.line.specs.Cells.{after, steps, Nearer, Cell}
 use Rattle.line.proofs.Firsts.{nearer, first-there, line-first, line-none, steps-first}
 
 -- ---- the cells of a floor

@@ -1,16 +1,12 @@
 -- The cells of a walk, by number (01, "Query": the route lists cells from start to goal with both ends).
-use Prim.Native.Nat.{ℕ, suc, pred, _+_, _*_, _≤_, _<_}
+use Prim.Native.Nat.{ℕ, suc, _+_, _*_, _≤_, _<_}
 use mathlib.Core.List.{List, [], _∷_, _++_}
 use mathlib.Core.Logic.{_⊎_}
 use mathlib.Core.Path.{_≡_}
 use lib.ListN.{length, take, drop}
 use Rattle.floor.specs.Board.{Place, Dir, shift, go}
-use Rattle.floor.specs.Words.{placeOf}
+use Rattle.floor.specs.Words.{placeOf, cellOf}
 use Rattle.ground.specs.Line.{toward, line}
-
--- the number of the cell at a place
-abbrev pub cellOf : ℕ → Place → ℕ
-cellOf w p = pred (p .y) * w + pred (p .x)
 
 -- the cells that a walk from p comes to, one for each of its steps
 abbrev pub after : ℕ → Place → List Dir → List ℕ

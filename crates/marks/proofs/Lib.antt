@@ -1,5 +1,4 @@
 -- Laws that belong to no one function.
-pub mod Cells
 pub mod Recurrence
 pub mod Orders
 pub mod Beside

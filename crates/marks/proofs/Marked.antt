@@ -12,7 +12,7 @@ use Rattle.floor.specs.Words.{board, placeOf, Floor}
 use Rattle.floor.proofs.Below.{below}
 use Rattle.marks.specs.Marks.{ClearanceAt, ClearedAt}
 use Rattle.marks.specs.Marking.{byNext, MarkedWays, MarkedAll}
-use Rattle.marks.proofs.Cells.{within}
+use Rattle.ground.proofs.Numbers.{within}
 use Rattle.marks.proofs.Recurrence.{clearance-small}
 use Rattle.marks.proofs.Orders.{rank, Right, rank-below, rank-tells, next-right}
 

@@ -7,12 +7,12 @@ use native.Mathlib.Nat.{suc-mul}
 use native.Mathlib.Omega.{arith}
 use lib.ListN.{getD}
 use Rattle.floor.specs.Board.{Place, at, Free, dirAt, go}
-use Rattle.floor.specs.Words.{board, numberOf, placeOf}
+use Rattle.floor.specs.Words.{board, numberOf, placeOf, cellOf}
 use Rattle.floor.proofs.Below.{below}
 use Rattle.ground.proofs.Cells.{column-inside, row-inside}
 use Rattle.marks.specs.Marks.{ClearanceAt, ClearedAt, Cleared}
-use Rattle.marks.specs.Marking.{cellOf, byNext}
-use Rattle.marks.proofs.Cells.{number-of-cell, column-in, row-in, within, free-cell, place-of-free}
+use Rattle.marks.specs.Marking.{byNext}
+use Rattle.ground.proofs.Numbers.{number-of-cell, column-in, row-in, within, free-cell, place-of-free}
 use Rattle.marks.proofs.Recurrence.{one-clearance, by-next}
 
 -- how many of n cells are met before c: for N and W from the first cell on, for E and S from the last

@@ -1,16 +1,13 @@
 -- What marking computes cell by cell. These are values of code; proofs/ ties them to the plan's definitions.
-use Prim.Native.Nat.{ℕ, suc, pred, _+_, _*_, _≤_, _<_}
+use Prim.Native.Nat.{ℕ, suc, _+_, _*_, _≤_, _<_}
 use mathlib.Core.Bool.{cond, _&&_}
 use mathlib.Core.List.{List}
 use mathlib.Core.Logic.{_≢_}
 use mathlib.Core.Path.{_≡_}
 use lib.ListN.{length, getD}
 use Rattle.floor.specs.Board.{Board, Place, dirAt, go, corner}
+use Rattle.floor.specs.Words.{cellOf}
 use Rattle.marks.specs.Marks.{ClearedAt, Cleared}
-
--- the number of the cell at a place
-abbrev pub cellOf : ℕ → Place → ℕ
-cellOf w p = pred (p .y) * w + pred (p .x)
 
 -- entry 4 c + d of the clearances, for the cell at a place
 abbrev pub entryAt : ℕ → List ℕ → Place → ℕ → ℕ

@@ -1,9 +1,8 @@
--- Entries of a list and of a part of it, by their places: which stand there, and whether they ascend. Assumes nothing.
-use Prim.Native.Nat.{ℕ, zero, suc, _+_, _-_, _≤_, _<_}
+-- Entries of a list and of a part of it, by their places: whether they ascend, and whether a number stands there. Assumes nothing.
+use Prim.Native.Nat.{ℕ, suc, _+_, _-_, _≤_, _<_}
 use mathlib.Core.Bool.{Bool}
 use mathlib.Core.List.{List, [], _∷_}
-use mathlib.Core.Logic.{inl, inr}
-use mathlib.Core.Path.{_≡_, refl, sym, _∙_, ap, subst}
+use mathlib.Core.Path.{_≡_, _∙_, ap, subst}
 use native.Mathlib.Decide.{decLe, ℕ-discrete}
 use native.Mathlib.Omega.{arith}
 use lib.ListN.{length, getD}
@@ -12,28 +11,10 @@ use Rattle.marks.specs.Lists.{part}
 use Rattle.plan.specs.Rising.{In, Rising}
 use Rattle.plan.specs.Inserting.{Found}
 use Rattle.plan.proofs.Insertions.{part-length, part-at}
-use Rattle.plan.proofs.Risings.{above-in, above-less}
+use Rattle.plan.proofs.Parts.{part-in, in-part}
+use Rattle.plan.proofs.Risings.{rising-later, above-less}
 
 -- ---- of a list
--- each entry stands in the list
-pub at-in : (xs : List ℕ) (i : ℕ) → i < length xs → In (getD xs i 0) xs
-at-in [] i l = absurd (omega arith)
-at-in (x ∷ xs) zero l = inl refl
-at-in (x ∷ xs) (suc i) l = inr (at-in xs i (omega arith))
-
--- what stands in the list is an entry
-pub in-at : (t : ℕ) (xs : List ℕ) → In t xs → (i : ℕ) × (i < length xs) × (getD xs i 0 ≡ t)
-in-at t [] i = absurd i
-in-at t (x ∷ xs) (inl e) = (0, omega arith, sym e)
-in-at t (x ∷ xs) (inr i) = let (j, l, e) = in-at t xs i in (suc j, omega arith, e)
-
--- in an ascending list each entry is below the later ones
-rising-later : (xs : List ℕ) → Rising xs → (i j : ℕ) → i < j → j < length xs → getD xs i 0 < getD xs j 0
-rising-later [] r i j l m = absurd (omega arith)
-rising-later (x ∷ xs) r i zero l m = absurd (omega arith)
-rising-later (x ∷ xs) r zero (suc j) l m = above-in x (getD xs j 0) xs (r .0) (at-in xs j (omega arith))
-rising-later (x ∷ xs) r (suc i) (suc j) l m = rising-later xs (r .1) i j (omega arith) (omega arith)
-
 -- a list each of whose entries is below the next ascends
 next-rising : (xs : List ℕ) → ((i : ℕ) → suc i < length xs → getD xs i 0 < getD xs (suc i) 0) → Rising xs
 next-rising [] f = tt
@@ -45,20 +26,6 @@ next-rising (x ∷ y ∷ ys) f =
 
 -- ---- of a part
 module _ (list : List ℕ) (from to : ℕ) (l : from ≤ to) (m : to ≤ length list) where
-  -- each entry of its places stands in the part
-  pub part-in : (j : ℕ) → from ≤ j → j < to → In (getD list j 0) (part list from to)
-  part-in j a b =
-      let back : from + (j - from) ≡ j = omega arith in
-      subst (λ (t : ℕ). In t (part list from to)) (part-at list from to l m (j - from) (omega arith) ∙ ap (λ (n : ℕ). getD list n 0) back)
-      (at-in (part list from to) (j - from) (rw (part-length list from to l m) (omega arith)))
-
-  -- what stands in the part is an entry of its places
-  pub in-part : (t : ℕ) → In t (part list from to) → (j : ℕ) × (from ≤ j) × (j < to) × (getD list j 0 ≡ t)
-  in-part t i =
-      let (j, b, e) = in-at t (part list from to) i in
-      let c : j < to - from = rw (part-length list from to l m) at b in
-      (from + j, omega arith, omega arith, sym (part-at list from to l m j c) ∙ e)
-
   -- in an ascending part each entry is below the later ones
   pub part-later : Rising (part list from to) → (i j : ℕ) → from ≤ i → i < j → j < to → getD list i 0 < getD list j 0
   part-later r i j a b c =
@@ -78,7 +45,7 @@ module _ (list : List ℕ) (from to : ℕ) (l : from ≤ to) (m : to ≤ length 
   -- what stands in an ascending part stands where a search for it ends
   pub found-in : Rising (part list from to) → (t r : ℕ) → Found list from to t r → In t (part list from to) → (r < to) × (getD list r 0 ≡ t)
   found-in rising t r f i =
-      let (j, a, b, e) = in-part t i in
+      let (j, a, b, e) = in-part list from to l m t i in
       by j a b e (decLe r j) (ℕ-discrete r j)
     where
       by : (j : ℕ) → from ≤ j → j < to → getD list j 0 ≡ t → Dec (r ≤ j) → Dec (r ≡ j) → (r < to) × (getD list r 0 ≡ t)
@@ -93,6 +60,6 @@ module _ (list : List ℕ) (from to : ℕ) (l : from ≤ to) (m : to ≤ length 
   pub stands-tells : Rising (part list from to) → (t r : ℕ) → Found list from to t r → {b : Bool} → Tells ((r < to) × (getD list r 0 ≡ t)) b → Tells (In t (part list from to)) b
   stands-tells rising t r f told =
       record {
-        yes = λ e. let (k, g) = told .yes e in subst (λ (u : ℕ). In u (part list from to)) g (part-in r (f .after) k);
+        yes = λ e. let (k, g) = told .yes e in subst (λ (u : ℕ). In u (part list from to)) g (part-in list from to l m r (f .after) k);
         no = λ e i. told .no e (found-in rising t r f i);
       }

@@ -8,12 +8,11 @@ use lib.Dec.{ltb}
 use lib.ListN.{length, getD}
 use borrow.Author.Tests.{ltb-true, ltb-false, lt-ltb, le-ltb}
 use Rattle.lengths.specs.Lengths.{gap}
-use Rattle.floor.specs.Board.{Board, Place, Free, corner}
 use Rattle.floor.specs.Words.{board, placeOf, Floor}
 use Rattle.floor.specs.Refusals.{Tells}
 use Rattle.floor.proofs.Places.{padded}
 use Rattle.ground.specs.Kind.{walkers}
-use Rattle.ground.proofs.Logic.{and-left}
+use Rattle.ground.proofs.Cells.{corner-free}
 use Rattle.marks.specs.Lists.{Picked}
 use Rattle.marks.specs.Marks.{cornerCell, cornerCells, Cleared}
 use Rattle.plan.specs.Plan.{LinkedCells, LinksTo}
@@ -23,7 +22,7 @@ use Rattle.matching.specs.Matching.{ShownStands, AllListed, AllSeen, Sta
 use Rattle.plan.proofs.Linked.{shown-direct, shown-other, shown-link, shown-there, link-shown}
 use Rattle.plan.proofs.Pickings.{picked-in, in-picked, picked-rising, rising-picked, select-in, in-select, select-rising}
 use Rattle.plan.proofs.Links.{up-to}
-use Rattle.matching.proofs.Entries.{at-in}
+use Rattle.plan.proofs.Risings.{at-in}
 
 -- ---- the field to a cell
 -- numbers that are both one larger compare as before
@@ -89,11 +88,6 @@ module _ (w h : ℕ) (words : List ℕ) (cell : ℕ) where
         -- and they are seen from it
         pub row-seen : AllSeen w h words cell xs
         row-seen t i = let (j, link) = picked-in p t i in linked-seen t (select-in (cornerCell w h words) (w * h) t j .0) link
-
--- a turning point is free
-pub corner-free : (B : Board) (p : Place) → corner B p ≡ true → Free B p
-unfolding corner
-corner-free B p e = and-left (B (p .x) (p .y)) _ e
 
 -- each of the listed turning points is one
 listed-corner : (w h : ℕ) (words corners : List ℕ) → corners ≡ cornerCells w h words → (k : ℕ) → k < length corners →

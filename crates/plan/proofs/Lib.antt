@@ -4,6 +4,7 @@ pub mod Risings
 pub mod Pickings
 pub mod Links
 pub mod Insertions
+pub mod Parts
 pub mod Growing
 pub mod Sweeping
 pub mod Fielding

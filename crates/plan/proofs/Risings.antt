@@ -8,9 +8,15 @@ use native.Mathlib.Decide.{ℕ-discrete}
 use native.Mathlib.Nat.{le-trans, lt-trans, lt-irrefl}
 use native.Mathlib.Omega.{arith}
 use lib.Dec.{ltb, eqb}
-use lib.ListN.{length}
+use lib.ListN.{length, getD}
 use borrow.Author.Tests.{ltb-true, ltb-false, eqb-true, eqb-false}
 use Rattle.plan.specs.Rising.{In, Above, Rising, insertion}
+
+-- an entry of a list stands in it
+pub at-in : (xs : List ℕ) (i : ℕ) → i < length xs → In (getD xs i 0) xs
+at-in [] i l = absurd (omega arith)
+at-in (x ∷ xs) zero l = inl refl
+at-in (x ∷ xs) (suc i) l = inr (at-in xs i (omega arith))
 
 -- what stands in a list whose entries are above a is above a
 pub above-in : (a t : ℕ) (xs : List ℕ) → Above a xs → In t xs → a < t
@@ -27,6 +33,13 @@ above-less a b (x ∷ xs) l h = let m = h .0 in (omega arith, above-less a b xs 
 pub all-above : (a : ℕ) (xs : List ℕ) → ((t : ℕ) → In t xs → a < t) → Above a xs
 all-above a [] f = tt
 all-above a (x ∷ xs) f = (f x (inl refl), all-above a xs (λ t i. f t (inr i)))
+
+-- in an ascending list each entry is below the later ones
+pub rising-later : (xs : List ℕ) → Rising xs → (i j : ℕ) → i < j → j < length xs → getD xs i 0 < getD xs j 0
+rising-later [] r i j l m = absurd (omega arith)
+rising-later (x ∷ xs) r i zero l m = absurd (omega arith)
+rising-later (x ∷ xs) r zero (suc j) l m = above-in x (getD xs j 0) xs (r .0) (at-in xs j (omega arith))
+rising-later (x ∷ xs) r (suc i) (suc j) l m = rising-later xs (r .1) i j (omega arith) (omega arith)
 
 -- the first of an ascending list that has all of another's entries is no later than the other's first
 first-le : (x y : ℕ) (xs ys : List ℕ) → Above x xs → In y (x ∷ xs) → x ≤ y

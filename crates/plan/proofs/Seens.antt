@@ -1,30 +1,23 @@
 -- What is seen from a turning point is what it is linked to, and whether two cells are linked is decided. Assumes nothing.
-use Prim.Native.Nat.{ℕ, zero, suc, _*_, _<_}
+use Prim.Native.Nat.{ℕ, _*_, _<_}
 use mathlib.Core.Bool.{true, Bool-discrete}
-use mathlib.Core.List.{List, [], _∷_}
-use mathlib.Core.Logic.{inl, inr}
-use mathlib.Core.Path.{_≡_, refl}
-use native.Mathlib.Omega.{arith}
+use mathlib.Core.List.{List}
+use mathlib.Core.Path.{_≡_}
 use lib.ListN.{length, getD}
-use Rattle.floor.specs.Board.{Board, Padded, Place, Free, corner}
+use Rattle.floor.specs.Board.{Board, Padded, Place, corner}
 use Rattle.floor.specs.Words.{placeOf}
 use Rattle.floor.proofs.Places.{padded}
 use Rattle.ground.specs.Kind.{walkers}
 use Rattle.ground.specs.Link.{Direct, Link}
 use Rattle.ground.proofs.Choose.{place-discrete}
 use Rattle.ground.proofs.Joined.{direct-dec}
-use Rattle.ground.proofs.Logic.{and-left}
 use Rattle.marks.specs.Marks.{cornerCell, cornerCells}
 use Rattle.plan.specs.Plan.{LinkedCells}
 use Rattle.plan.specs.Rising.{In}
 use Rattle.fields.specs.Fields.{Seen}
+use Rattle.plan.proofs.Risings.{at-in}
 use Rattle.plan.proofs.Linked.{shown-link, link-shown}
 use Rattle.plan.proofs.Pickings.{select-in, in-select}
-
--- a turning point is free
-pub corner-free : (B : Board) (p : Place) → corner B p ≡ true → Free B p
-unfolding corner
-corner-free B p e = and-left (B (p .x) (p .y)) _ e
 
 -- whether two places are linked is decided
 pub link-dec : {B : Board} → Padded B → (s t : Place) → Dec (Link walkers B s t)
@@ -37,12 +30,6 @@ link-dec {B} pad s t = by (Bool-discrete (corner B s) true) (Bool-discrete (corn
     by (yes a) (yes b) (no n) (no d) = no (λ l. d (l .direct))
     by (yes a) (yes b) (no n) (yes d) = yes (record { from = a; to = b; two = n; direct = d })
 
--- an entry of a list stands in it
-pub entry-in : (xs : List ℕ) (i : ℕ) → i < length xs → In (getD xs i 0) xs
-entry-in [] i l = absurd (omega arith)
-entry-in (x ∷ xs) zero l = inl refl
-entry-in (x ∷ xs) (suc i) l = inr (entry-in xs i (omega arith))
-
 module _ (w h : ℕ) (words : List ℕ) where
   -- whether two cells are linked is decided
   pub linked-dec : (s t : ℕ) → Dec (LinkedCells walkers w h words s t)
@@ -51,7 +38,7 @@ module _ (w h : ℕ) (words : List ℕ) where
   -- an entry of the turning points is the cell of one
   pub corner-entry : (i : ℕ) → i < length (cornerCells w h words) →
       (getD (cornerCells w h words) i 0 < w * h) × (cornerCell w h words (getD (cornerCells w h words) i 0) ≡ true)
-  corner-entry i l = select-in (cornerCell w h words) (w * h) _ (entry-in (cornerCells w h words) i l)
+  corner-entry i l = select-in (cornerCell w h words) (w * h) _ (at-in (cornerCells w h words) i l)
 
   module _ (cell : ℕ) (turns : cornerCell w h words cell ≡ true) (t : ℕ) where
     -- what is seen from a turning point is one to which it is linked

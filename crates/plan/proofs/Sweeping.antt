@@ -13,7 +13,7 @@ use Rattle.fields.specs.Fields.{Standing, PassedRow, NewRow, begun, ShownIn, Se
 use Rattle.plan.specs.Linking.{PutShown, Finding, Crowded, Grown}
 use Rattle.fields.specs.declared.Sweep.{Sweep}
 use Rattle.plan.specs.declared.Filled.the-variants.{To, NoRoom}
-use Rattle.marks.proofs.Cells.{number-of-cell}
+use Rattle.ground.proofs.Numbers.{number-of-cell}
 use Rattle.plan.proofs.Growing.{grown-self, grown-trans, Put, put-shown, crowded}
 use Rattle.fields.proofs.Passes.{begin-standing}
 

@@ -1,35 +1,32 @@
 -- A work space with the flags of start and goal charts the trip. Assumes nothing.
-use Prim.Native.Nat.{ℕ, suc, _+_, _*_, _≤_, _<_}
-use mathlib.Core.Bool.{true, false, true≢false}
+use Prim.Native.Nat.{ℕ, _+_, _*_, _≤_, _<_}
+use mathlib.Core.Bool.{true, false}
 use mathlib.Core.List.{List}
-use mathlib.Core.Logic.{_⊎_, inl, inr, ⊎-elim, _↔_, _≢_}
+use mathlib.Core.Logic.{_⊎_, ⊎-elim, _↔_, _≢_}
 use mathlib.Core.Path.{_≡_, refl, sym, _∙_, ap, subst}
 use native.Mathlib.Decide.{decLe}
 use native.Mathlib.Omega.{arith}
-use lib.ListN.{length, getD, drop}
-use Rattle.floor.specs.Board.{Free, corner}
+use lib.ListN.{length, getD}
+use Rattle.floor.specs.Board.{Free}
 use Rattle.floor.specs.Words.{board, placeOf}
 use Rattle.floor.proofs.Places.{padded}
-use Rattle.ground.specs.Kind.{walkers}
-use Rattle.ground.specs.Link.{Direct}
-use Rattle.ground.proofs.Logic.{true-or-false, not-both}
+use Rattle.ground.proofs.Logic.{not-both}
 use Rattle.plan.specs.Plan.{Lists, PlanOf}
 use Rattle.marks.specs.Marks.{cornerCell}
-use Rattle.fields.specs.Fields.{Seen, Sweepable}
-use Rattle.marks.proofs.Cells.{same-cell}
+use Rattle.fields.specs.Fields.{Seen}
+use Rattle.ground.proofs.Numbers.{same-cell}
 use Rattle.plan.proofs.Linked.{shown-direct, direct-shown}
-use Rattle.search.specs.Columns.{columnOf, Only, ByStart, ByGoal, Label, Tree, Settled}
+use Rattle.search.specs.Columns.{columnOf, ByStart, ByGoal, Label, Tree, Settled}
 use Rattle.search.specs.Places.{indexOf, Ascending}
 use Rattle.search.specs.Chart.{chart}
-use Rattle.search.specs.Search.{Blank}
 use Rattle.search.specs.declared.Trip.{Trip}
-use Rattle.query.specs.Flags.{Flag, FlagRoom, Flaggable, Flagging, AllFlagged}
+use Rattle.query.specs.Flags.{Flag, Flaggable, Flagging, AllFlagged}
 use Rattle.query.specs.Answers.{Searchable}
 use Rattle.chain.specs.Charted.{Charted, DirectCells}
 use Rattle.query.specs.Prepared.{Empty, EndFlags, Prepared}
 use Rattle.query.specs.Trips.{TripOf}
-use Rattle.chain.proofs.Entries.{index-at, index-most}
 use Rattle.chain.proofs.Corners.{corners-ascend, corner-at, corner-index, index-corner, index-none}
+use Rattle.search.proofs.Cells.{index-of-entry, index-most}
 use Rattle.search.proofs.Columns.{only-same}
 
 -- ---- the flags of one end
@@ -47,7 +44,7 @@ module _ (w h : ℕ) (words corners : List ℕ) (cell n c place own : ℕ) (W : 
         only = f .only;
         flags = λ i l. (
           λ g. (e, ⊎-elim (λ old. absurd (let z = empty i in omega arith)) (λ s. s) (f .new i l g)),
-          λ s. subst (Flag n c W′) (index-at corners ascending i l) (all (getD corners i 0) (s .1)),
+          λ s. subst (Flag n c W′) (index-of-entry corners ascending i l) (all (getD corners i 0) (s .1)),
         );
       }
 

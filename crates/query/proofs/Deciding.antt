@@ -12,7 +12,7 @@ use Rattle.ground.specs.Kind.{walkers}
 use Rattle.ground.specs.Walk.{Legal}
 use Rattle.ground.specs.Line.{line}
 use Rattle.marks.specs.Lists.{written}
-use Rattle.marks.proofs.Cells.{place-of-number, number-in}
+use Rattle.ground.proofs.Numbers.{place-of-number, number-in}
 use Rattle.line.specs.Cells.{Cell}
 use Rattle.chain.specs.Route.{LineClear}
 use Rattle.query.specs.Query.{Asked, startCell, goalCell, workSize, queryRows, QueryOutcome}

@@ -1,18 +1,18 @@
 -- How the flags of the corners that are seen from a cell are set one after the other. Assumes nothing.
-use Prim.Native.Nat.{ℕ, zero, suc, _+_, _-_, _*_, _≤_, _<_}
+use Prim.Native.Nat.{ℕ, zero, suc, _-_, _<_}
 use mathlib.Core.List.{List}
 use mathlib.Core.Logic.{_⊎_, inl, inr, ⊎-elim}
 use mathlib.Core.Path.{_≡_, refl, sym, _∙_, ap, subst}
 use native.Mathlib.Decide.{ℕ-discrete}
 use native.Mathlib.Omega.{arith}
-use lib.ListN.{length, getD, set}
+use lib.ListN.{length, getD}
 use lib.Seq.{getD-set-same, getD-set-other}
 use Rattle.fields.specs.Fields.{Seen}
 use Rattle.search.specs.Columns.{columnOf, Only, Put}
 use Rattle.search.specs.Places.{indexOf}
+use Rattle.search.proofs.Cells.{index-at}
 use Rattle.search.proofs.Columns.{column-length, only-same, only-trans}
 use Rattle.query.specs.Flags.{Flag, FlagRoom, FlagShown, Flagging}
-use Rattle.chain.proofs.Entries.{index-hit}
 
 -- the room stays as it was
 pub same-room : {corners : List ℕ} {n c : ℕ} {W W′ : List ℕ} → FlagRoom corners n c W → Only n W c W′ → FlagRoom corners n c W′
@@ -54,7 +54,7 @@ module _ (w h : ℕ) (words corners : List ℕ) (cell n c : ℕ) where
         kept i f (no d) = rw (other i d) f
 
         new : (i : ℕ) → Flag n c W′ i → Dec (i ≡ indexOf corners t) → Flag n c W i ⊎ Seen w h words cell (getD corners i 0)
-        new i f (yes e) = inr (subst (Seen w h words cell) (sym (ap (λ (j : ℕ). getD corners j 0) e ∙ index-hit corners t listed)) seen)
+        new i f (yes e) = inr (subst (Seen w h words cell) (sym (ap (λ (j : ℕ). getD corners j 0) e ∙ index-at corners t listed)) seen)
         new i f (no d) = inl (rw (other i d) at f)
 
   -- what a row shows has its flag, and nothing else changed

@@ -16,7 +16,7 @@ use Rattle.search.specs.Chart.{Chart, flagged, arcsOf, countOf, arcs, co
 use Rattle.search.proofs.Cells.{index-at, ascending-once, cell-corner, cell-start, cell-goal, apart-none}
 
 -- A flag that leads somewhere is set, and leads to its place.
-flag-some : (L : List ℕ) (i p v : ℕ) → flagged L i p ≡ v + 1 → (0 < getD L i 0) × (p ≡ v)
+pub flag-some : (L : List ℕ) (i p v : ℕ) → flagged L i p ≡ v + 1 → (0 < getD L i 0) × (p ≡ v)
 unfolding flagged
 flag-some L i p v h = go (decLt 0 (getD L i 0))
   where

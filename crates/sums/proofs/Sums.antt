@@ -1,5 +1,5 @@
 -- The one statement over the table of sums. Assumes nothing.
-use Prim.Native.Nat.{ℕ, zero, suc, pred, _+_, _≤_, _<_}
+use Prim.Native.Nat.{ℕ, pred, _+_}
 use mathlib.Core.Bool.{true, false, true≢false}
 use mathlib.Core.List.{List, [], _∷_}
 use mathlib.Core.Logic.{_⊎_, inl, inr, ⊎-elim}
@@ -9,25 +9,23 @@ use lib.Dec.{eqb}
 use borrow.Author.Tests.{eqb-false}
 use Rattle.lengths.specs.Lengths.{Len, pair, over, shorter, _≺_}
 use Rattle.lengths.specs.Laws.{shorter-≺, 𝟎-least}
-use Rattle.floor.specs.Board.{Place, Dir, N, E, S, corner, nook, step}
+use Rattle.floor.specs.Board.{Place, N, E, S, corner, nook, step}
 use Rattle.floor.specs.Words.{board, freeIn, placeOf}
 use Rattle.floor.proofs.Places.{padded}
 use Rattle.ground.specs.Kind.{walkers}
 use Rattle.ground.specs.Walk.{Legal, len}
 use Rattle.ground.specs.Line.{line}
-use Rattle.ground.specs.Link.{Link}
 use Rattle.ground.specs.Test.{joined}
 use Rattle.ground.specs.Clearance.{Clearance}
 use Rattle.ground.specs.Certificate.{Claim, Certified, certifies}
 use Rattle.ground.proofs.Joined.{joined-iff-direct}
 use Rattle.ground.proofs.Certificate.{certifies-certified, certified-shortest, certified-none}
 use Rattle.marks.specs.Lists.{select}
-use Rattle.marks.specs.Marks.{ClearanceAt}
 use Rattle.plan.specs.Plan.{LinkedCells}
-use Rattle.marks.proofs.Cells.{within}
+use Rattle.ground.proofs.Numbers.{within}
 use Rattle.marks.proofs.Recurrence.{clearance-none, clearance-one, clearance-more}
-use Rattle.effort.specs.Effort.{PlaceCell, Far, NoLater, EffortFound, EffortLost}
-use Rattle.settling.specs.Counts.{Counts, empty, with, without}
+use Rattle.effort.specs.Effort.{PlaceCell, Far, EffortFound, EffortLost}
+use Rattle.settling.specs.Counts.{empty, with, without}
 use Rattle.sums.specs.Drawing.{hall, bent, split, barred}
 use Rattle.sums.specs.Table.{table, AllHold, NoWay}
 

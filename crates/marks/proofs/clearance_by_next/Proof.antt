@@ -12,7 +12,7 @@ use Rattle.floor.specs.Words.{bitFree, board, numberOf}
 use Rattle.floor.proofs.Places.{cell-free}
 use Rattle.ground.proofs.Logic.{and-left, and-right}
 use Rattle.marks.specs.Marking.{entryAt}
-use Rattle.marks.proofs.Cells.{within, number-in}
+use Rattle.ground.proofs.Numbers.{within, number-in}
 use Rattle.marks.proofs.Recurrence.{next-none, next-corner, next-more}
 use Rattle.marks.proofs.Beside.{beside, Neighbour, neighbour}
 use Rattle.marks.proofs.clearance_by_next.Statement.{statement}

@@ -1,6 +1,6 @@
 -- `marks::corner_cell` meets its contract: a cell has a column and a row. Assumes nothing.
 use borrow.Author.Needs.{needs}
-use Rattle.marks.proofs.Cells.{column-in, row-in}
+use Rattle.ground.proofs.Numbers.{column-in, row-in}
 use Rattle.marks.proofs.corner_cell.Statement.{statement}
 use Rattle.marks.proofs.corner_cell.Tie as tie
 

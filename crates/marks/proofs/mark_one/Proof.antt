@@ -1,6 +1,6 @@
 -- `marks::mark_one` meets its contract: what is written is what `clearance_by_next` ensures. Assumes nothing.
 use borrow.Author.Needs.{needs}
-use Rattle.marks.proofs.Cells.{column-in, row-in}
+use Rattle.ground.proofs.Numbers.{column-in, row-in}
 use Rattle.marks.proofs.mark_one.Statement.{statement}
 use Rattle.marks.proofs.mark_one.Tie as tie
 

@@ -6,7 +6,7 @@ use denote.Ref.{now}
 use lib.Dec.{eqb}
 use lib.ListN.{getD}
 use borrow.Author.Needs.{needs}
-use Rattle.marks.proofs.Cells.{number-of-cell, column-in, row-in}
+use Rattle.ground.proofs.Numbers.{number-of-cell, column-in, row-in}
 use Rattle.marks.proofs.one_matches.Statement.{statement}
 use Rattle.marks.proofs.one_matches.Tie as tie
 

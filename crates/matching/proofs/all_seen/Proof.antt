@@ -7,7 +7,7 @@ use borrow.Author.Count.{below-more}
 use lib.ListN.{getD}
 use Rattle.floor.proofs.Tables.{found, missing}
 use Rattle.fields.specs.Fields.{Seen}
-use Rattle.matching.proofs.Entries.{part-in, in-part}
+use Rattle.plan.proofs.Parts.{part-in, in-part}
 use Rattle.matching.proofs.all_seen.Statement.{statement}
 use Rattle.matching.proofs.all_seen.Tie as tie
 

@@ -8,13 +8,12 @@ use native.Mathlib.Nat.{div-add-mod', mod-lt, mod-eq-of-lt, div-eq-of-lt, div-lt
 use native.Mathlib.Omega.{arith}
 use lib.Dec.{ltb}
 use Rattle.floor.specs.Board.{Board, Place, at, Free}
-use Rattle.floor.specs.Words.{rowOf, freeIn, board, numberOf, placeOf}
+use Rattle.floor.specs.Words.{rowOf, freeIn, board, numberOf, placeOf, cellOf}
 use Rattle.floor.proofs.Places.{padded, freeIn-past, free-past}
 use Rattle.ground.specs.Within.{Within}
 use Rattle.ground.proofs.Logic.{not-both, and-right}
 use Rattle.ground.proofs.Cells.{column-inside, row-inside}
 use Rattle.ground.proofs.Walks.{place-eq}
-use Rattle.marks.specs.Marking.{cellOf}
 
 -- ---- a cell's number, its column and its row
 module _ (w : ℕ) where
