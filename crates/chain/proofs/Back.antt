@@ -37,7 +37,7 @@ use Rattle.chain.proofs.Efforts.{rank-same}
 module _ {w h : ℕ} {words : List ℕ} {p : Lists} {start goal : ℕ} {𝓒 : Chart} (ch : Charted w h words p start goal 𝓒) where
   -- What is linked to v, has a shortest length, and with the link adds up to v's, is what precedes v on the floor.
   pub precedes-iff :
-      (u v d e : ℕ) (l : Len) → Used 𝓒 u → Used 𝓒 v → Far w h words start goal (cell 𝓒 v) l → weight l ≡ d →
+      (u v d e : ℕ) (l : Len) → Used 𝓒 u → Used 𝓒 v → Far w h words start (cell 𝓒 v) l → weight l ≡ d →
       (((j : ℕ) × (j < linkCount 𝓒 v) × (linkAt 𝓒 v j ≡ u + 1)) × Shortest (net 𝓒) u e × (e + apart (𝓒 .trip .w) (cell 𝓒 u) (cell 𝓒 v) ≡ d))
       ↔ ((m : Len) × (weight m ≡ e) × Precedes w h words start goal (cell 𝓒 v) l (cell 𝓒 u) m)
   precedes-iff u v d e l a b f q = (there, back)
@@ -92,7 +92,7 @@ module _ {w h : ℕ} {words : List ℕ} {p : Lists} {start goal : ℕ} {𝓒 : C
 
   -- Some place precedes each other than the start.
   pub some-precedes :
-      {v : ℕ} {l : Len} → Used 𝓒 v → v ≢ 𝓒 .trip .from → Far w h words start goal (cell 𝓒 v) l →
+      {v : ℕ} {l : Len} → Used 𝓒 v → v ≢ 𝓒 .trip .from → Far w h words start (cell 𝓒 v) l →
       (u : ℕ) × Used 𝓒 u × ((m : Len) × Precedes w h words start goal (cell 𝓒 v) l (cell 𝓒 u) m)
   some-precedes {v} b other f =
       let (c, m, t) = place-before w h words start goal (trip ch) (cell-place ch v) (not-start b other) f in
@@ -118,7 +118,7 @@ module _ {w h : ℕ} {words : List ℕ} {p : Lists} {start goal : ℕ} {𝓒 : C
     settled-used s = shortest-there ch (settled-length s) .0
 
     -- and the weight of its shortest walks.
-    pub settled-walk : {v d : ℕ} → SettledAt 𝓢 v d → (l : Len) × Far w h words start goal (cell 𝓒 v) l × (weight l ≡ d)
+    pub settled-walk : {v d : ℕ} → SettledAt 𝓢 v d → (l : Len) × Far w h words start (cell 𝓒 v) l × (weight l ≡ d)
     settled-walk s = shortest-walk ch (settled-length s)
 
     -- a settled place is settled at its shortest length
@@ -147,14 +147,14 @@ module _ {w h : ℕ} {words : List ℕ} {p : Lists} {start goal : ℕ} {𝓒 : C
 
     -- What precedes a place that ranks no later than the goal is settled, where the goal is.
     pub precedes-settled :
-        {u : ℕ} (v : ℕ) {g l m : Len} → 𝓢 .settled (𝓒 .trip .to) ≡ true → Far w h words start goal goal g → Used 𝓒 u →
-        Far w h words start goal (cell 𝓒 v) l →
+        {u : ℕ} (v : ℕ) {g l m : Len} → 𝓢 .settled (𝓒 .trip .to) ≡ true → Far w h words start goal g → Used 𝓒 u →
+        Far w h words start (cell 𝓒 v) l →
         NoLater w h words start goal g (cell 𝓒 v) →
         Precedes w h words start goal (cell 𝓒 v) l (cell 𝓒 u) m →
         SettledAt 𝓢 u (weight m)
     precedes-settled {u} v {g} {l} {m} t k a f n b =
         let n′ = before-no-later w h words start goal (trip ch) f b n in
-        let k′ : Far w h words start goal (cell 𝓒 (𝓒 .trip .to)) g = subst (λ (c : ℕ). Far w h words start goal c g) (sym (to-cell ch)) k in
+        let k′ : Far w h words start (cell 𝓒 (𝓒 .trip .to)) g = subst (λ (c : ℕ). Far w h words start c g) (sym (to-cell ch)) k in
         let at-goal : SettledAt 𝓢 (𝓒 .trip .to) (weight g) = settled-at t (walk-shortest ch (to-used ch) k′) in
         let s : Shortest (net 𝓒) u (weight (n′ .far)) = walk-shortest ch a (n′ .shortest) in
         let r = ranks-iff w h words start goal (trip ch) (cell 𝓒 u) (n′ .far) g (n′ .shortest) k .1 (n′ .ranks) in
@@ -166,7 +166,7 @@ module _ {w h : ℕ} {words : List ℕ} {p : Lists} {start goal : ℕ} {𝓒 : C
     module _ {t g v d : ℕ} (at-t : SettledAt 𝓢 t g) (at-v : SettledAt 𝓢 v d) (no-further : d ≤ g) where
       -- what precedes v is linked to it, settled, and adds up
       pub precedes-labelled :
-          {c : ℕ} {l m : Len} → Far w h words start goal (cell 𝓒 v) l → Precedes w h words start goal (cell 𝓒 v) l c m →
+          {c : ℕ} {l m : Len} → Far w h words start (cell 𝓒 v) l → Precedes w h words start goal (cell 𝓒 v) l c m →
           (u : ℕ) × (cell 𝓒 u ≡ c) × net 𝓒 .Link v u × SettledAt 𝓢 u (weight m) × (weight m + net 𝓒 .weight u v ≡ d)
       precedes-labelled {c} {l} {m} f b =
           let (u, a, e, b′) = precedes-index v b in

@@ -205,8 +205,8 @@ pub record Tracing (a : Journey) (C : List ℕ) (t : Trip) (W W′ : List ℕ) (
   pub rest : List ℕ
   pub traced : Traced a C t (columnOf (t .k + 2) W Label) (columnOf (t .k + 2) W′ Next) v rest
   pub far : Len
-  pub shortest : Far (a .w) (a .h) (a .words) (a .start) (a .goal) (a .goal) far
-  pub sum : (m : Len) → Far (a .w) (a .h) (a .words) (a .start) (a .goal) (cellOf C t v) m → m ⊕ l ≡ far
+  pub shortest : Far (a .w) (a .h) (a .words) (a .start) (a .goal) far
+  pub sum : (m : Len) → Far (a .w) (a .h) (a .words) (a .start) (cellOf C t v) m → m ⊕ l ≡ far
 
 module _ {a : Journey} {C S E : List ℕ} {t : Trip} {W : List ℕ} (k : Walked a C S E t W) where
   -- at the goal nothing is behind
@@ -217,7 +217,7 @@ module _ {a : Journey} {C S E : List ℕ} {t : Trip} {W : List ℕ} (k : Walked 
         rest = [];
         traced = Traced.there;
         far = l;
-        shortest = subst (λ (c : ℕ). Far (a .w) (a .h) (a .words) (a .start) (a .goal) c l) (to-cell (k .charted)) f;
+        shortest = subst (λ (c : ℕ). Far (a .w) (a .h) (a .words) (a .start) c l) (to-cell (k .charted)) f;
         sum = λ m g. same-pair (let q = shortest-unique g f in ap (λ (x : Len). x .straight + 0) q ∙ omega arith) (let q = shortest-unique g f in ap (λ (x : Len). x .diagonal + 0) q ∙ omega arith);
       }
 
@@ -265,7 +265,7 @@ module _ {a : Journey} {C S E : List ℕ} {t : Trip} {W : List ℕ} (k : Walked 
   tracing-done {W′} {r} o s =
       let e = from-cell (k .charted) in
       let z = start-far (a .w) (a .h) (a .words) (a .start) (a .goal) (trip (k .charted)) in
-      let q = s .sum 𝟎 (subst (λ (c : ℕ). Far (a .w) (a .h) (a .words) (a .start) (a .goal) c 𝟎) (sym e) z) in
+      let q = s .sum 𝟎 (subst (λ (c : ℕ). Far (a .w) (a .h) (a .words) (a .start) c 𝟎) (sym e) z) in
       let same : s .far ≡ lenOf r = same-pair (let x = ap (λ (y : Len). y .straight) q in omega arith) (let x = ap (λ (y : Len). y .diagonal) q in omega arith) in
       let first : ChainTo (a .w) (a .h) (a .words) (a .start) (a .goal) (cellOf C t (t .from)) (cellOf C t (t .from) ∷ []) =
       subst (λ (c : ℕ). ChainTo (a .w) (a .h) (a .words) (a .start) (a .goal) c (c ∷ [])) (sym e) ChainTo.here in
@@ -275,7 +275,7 @@ module _ {a : Journey} {C S E : List ℕ} {t : Trip} {W : List ℕ} (k : Walked 
         chain =
             subst (λ (c : ℕ). ChainTo (a .w) (a .h) (a .words) (a .start) (a .goal) c (cellsAt C t (t .from ∷ s .rest))) (to-cell (k .charted))
             (traced-chain first (s .traced));
-        shortest = subst (λ (x : Len). Far (a .w) (a .h) (a .words) (a .start) (a .goal) (a .goal) x) same (s .shortest);
+        shortest = subst (λ (x : Len). Far (a .w) (a .h) (a .words) (a .start) (a .goal) x) same (s .shortest);
       }
 
 -- ---- what a change of the column NEXT leaves

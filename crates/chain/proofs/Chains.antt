@@ -71,11 +71,11 @@ module _ {w h : ℕ} {words : List ℕ} {p : Lists} {start goal : ℕ} {𝓒 : C
   shortest-at a s = record { chain = chain-at a (s .chain); best = λ e c. s .best e (chain-there c .1) }
 
   -- A shortest chain weighs what the shortest walk to its place's cell does.
-  pub shortest-walk : {v d : ℕ} → Shortest (net 𝓒) v d → (l : Len) × Far w h words start goal (cell 𝓒 v) l × (weight l ≡ d)
+  pub shortest-walk : {v d : ℕ} → Shortest (net 𝓒) v d → (l : Len) × Far w h words start (cell 𝓒 v) l × (weight l ≡ d)
   shortest-walk s = shortest-far w h words start goal (trip ch) (shortest-there s .1)
 
   -- and the other way round
-  pub walk-shortest : {v : ℕ} {l : Len} → Used 𝓒 v → Far w h words start goal (cell 𝓒 v) l → Shortest (net 𝓒) v (weight l)
+  pub walk-shortest : {v : ℕ} {l : Len} → Used 𝓒 v → Far w h words start (cell 𝓒 v) l → Shortest (net 𝓒) v (weight l)
   walk-shortest {v} a f = shortest-at a (far-shortest w h words start goal (trip ch) (cell-place ch v) f)
 
   -- Every shortest chain is so short that its length fits.

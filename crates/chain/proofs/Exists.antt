@@ -90,7 +90,7 @@ module _ (w h : ℕ) (words : List ℕ) (start goal : ℕ) where
   precedes-dec v l u = by (joined-dec u v) (shortest-or-none (within w h words) walkers (placeOf w start) (placeOf w u))
     where
       sums :
-          Joined w h words start goal u v → (m : Len) → Far w h words start goal u m → Dec (m ⊕ octile (placeOf w u) (placeOf w v) ≡ l) →
+          Joined w h words start goal u v → (m : Len) → Far w h words start u m → Dec (m ⊕ octile (placeOf w u) (placeOf w v) ≡ l) →
           Dec ((m : Len) × Precedes w h words start goal v l u m)
       sums j m f (yes e) = yes (m, record { joined = j; far = f; sum = e })
       sums j m f (no k) =
@@ -100,7 +100,7 @@ module _ (w h : ℕ) (words : List ℕ) (start goal : ℕ) where
 
       by :
           Dec (Joined w h words start goal u v) →
-          ((m : Len) × Far w h words start goal u m) ⊎ NoWalk walkers (board w h words) (placeOf w start) (placeOf w u) →
+          ((m : Len) × Far w h words start u m) ⊎ NoWalk walkers (board w h words) (placeOf w start) (placeOf w u) →
           Dec ((m : Len) × Precedes w h words start goal v l u m)
       by (no k) r = no (λ (m, p). k (p .joined))
       by (yes j) (inr none) = no (λ (m, p). let (ds, a, e) = p .far .some in none ds a)
@@ -116,7 +116,7 @@ module _ (w h : ℕ) (words : List ℕ) (start goal : ℕ) where
 module _ (w h : ℕ) (words : List ℕ) (start goal : ℕ) (trip : Trip w h words start goal) where
   -- A place that is reached, other than the start, has a place before it, which is nearer.
   pub before-exists :
-      {v : ℕ} {l : Len} → PlaceCell w h words start goal v → v ≢ start → Far w h words start goal v l →
+      {v : ℕ} {l : Len} → PlaceCell w h words start goal v → v ≢ start → Far w h words start v l →
       (u : ℕ) × (b : Before w h words start goal v u) × (b .nearer ≺ l)
   before-exists {v} {l} p other f =
       let (u, m, b) = place-before w h words start goal trip p other f in
@@ -134,16 +134,16 @@ module _ (w h : ℕ) (words : List ℕ) (start goal : ℕ) (trip : Trip w h word
 
   -- A place that is reached has a chain.
   pub chain-exists :
-      {v : ℕ} {l : Len} → PlaceCell w h words start goal v → Far w h words start goal v l →
+      {v : ℕ} {l : Len} → PlaceCell w h words start goal v → Far w h words start v l →
       (places : List ℕ) × ChainTo w h words start goal v places
   chain-exists {v} {l} p f = ≺-induction Reached (λ y ih v p f. by y ih v p f (ℕ-discrete v start)) l v p f
     where
       Reached : Len → Type 0
       Reached l =
-          (v : ℕ) → PlaceCell w h words start goal v → Far w h words start goal v l → (places : List ℕ) × ChainTo w h words start goal v places
+          (v : ℕ) → PlaceCell w h words start goal v → Far w h words start v l → (places : List ℕ) × ChainTo w h words start goal v places
 
       by :
-          (y : Len) → ((x : Len) → x ≺ y → Reached x) → (v : ℕ) → PlaceCell w h words start goal v → Far w h words start goal v y →
+          (y : Len) → ((x : Len) → x ≺ y → Reached x) → (v : ℕ) → PlaceCell w h words start goal v → Far w h words start v y →
           Dec (v ≡ start) →
           (places : List ℕ) × ChainTo w h words start goal v places
       by y ih v p f (yes e) = (start ∷ [], subst (λ (x : ℕ). ChainTo w h words start goal x (start ∷ [])) (sym e) here)
@@ -153,7 +153,7 @@ module _ (w h : ℕ) (words : List ℕ) (start goal : ℕ) (trip : Trip w h word
           (places ++ (v ∷ []), back k b c)
 
   -- Where a walk leads to the goal there is a route.
-  pub route-exists : {l : Len} → Far w h words start goal goal l → (cells : List ℕ) × RouteOf w h words start goal cells
+  pub route-exists : {l : Len} → Far w h words start goal l → (cells : List ℕ) × RouteOf w h words start goal cells
   route-exists {l} f = by (line-dec w h words start goal)
     where
       by : Dec (LineClear w h words start goal) → (cells : List ℕ) × RouteOf w h words start goal cells

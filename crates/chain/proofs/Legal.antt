@@ -64,12 +64,12 @@ module _ (w h : ℕ) (words : List ℕ) (start goal : ℕ) where
 
 module _ (w h : ℕ) (words : List ℕ) (start goal : ℕ) (trip : Trip w h words start goal) where
   -- the start is no steps away
-  pub start-near : {l : Len} → Far w h words start goal start l → 𝟎 ≡ l
+  pub start-near : {l : Len} → Far w h words start start l → 𝟎 ≡ l
   start-near f = shortest-unique (record { some = ([], (trip .start-free, refl), refl); least = λ ds a. 𝟎-least (len ds) }) f
 
   -- The legs of a chain to v are a walk to v of the shortest length.
   pub chain-legal :
-      {v : ℕ} {places : List ℕ} → ChainTo w h words start goal v places → {l : Len} → Far w h words start goal v l →
+      {v : ℕ} {places : List ℕ} → ChainTo w h words start goal v places → {l : Len} → Far w h words start v l →
       (ds : List Dir)
       × Walk walkers (board w h words) (placeOf w start) (placeOf w v) ds
       × (len ds ≡ l)
@@ -94,7 +94,7 @@ module _ (w h : ℕ) (words : List ℕ) (start goal : ℕ) (trip : Trip w h word
 
   -- The route is legal, ends at the goal and has the shortest length.
   pub route-legal :
-      {cells : List ℕ} → RouteOf w h words start goal cells → (l : Len) → Far w h words start goal goal l →
+      {cells : List ℕ} → RouteOf w h words start goal cells → (l : Len) → Far w h words start goal l →
       (ds : List Dir)
       × Walk walkers (board w h words) (placeOf w start) (placeOf w goal) ds
       × (len ds ≡ l)
@@ -108,7 +108,7 @@ module _ (w h : ℕ) (words : List ℕ) (start goal : ℕ) (trip : Trip w h word
       (ds, a, e, r .walked ∙ ap (λ (cs : List ℕ). start ∷ cs) k)
 
   -- It has as many cells as its length says.
-  pub route-cells : {cells : List ℕ} → RouteOf w h words start goal cells → (l : Len) → Far w h words start goal goal l → length cells ≡ cellsOf l
+  pub route-cells : {cells : List ℕ} → RouteOf w h words start goal cells → (l : Len) → Far w h words start goal l → length cells ≡ cellsOf l
   route-cells r l f =
       let (ds, a, e, k) = route-legal r l f in
       ap length k
@@ -117,7 +117,7 @@ module _ (w h : ℕ) (words : List ℕ) (start goal : ℕ) (trip : Trip w h word
 
   -- It lists the goal last.
   pub route-ends :
-      {cells : List ℕ} → RouteOf w h words start goal cells → (l : Len) → Far w h words start goal goal l →
+      {cells : List ℕ} → RouteOf w h words start goal cells → (l : Len) → Far w h words start goal l →
       (front : List ℕ) × (cells ≡ front ++ (goal ∷ []))
   route-ends r l f =
       let (ds, a, e, k) = route-legal r l f in
@@ -132,7 +132,7 @@ module _ (w h : ℕ) (words : List ℕ) (start goal : ℕ) (trip : Trip w h word
 
   -- It lists cells of the floor only.
   pub route-inside :
-      {cells : List ℕ} → RouteOf w h words start goal cells → (l : Len) → Far w h words start goal goal l → (c : ℕ) → In c cells → c < w * h
+      {cells : List ℕ} → RouteOf w h words start goal cells → (l : Len) → Far w h words start goal l → (c : ℕ) → In c cells → c < w * h
   route-inside r l f c i =
       let (ds, a, e, k) = route-legal r l f in
       ⊎-elim (λ q. subst (λ (x : ℕ). x < w * h) (sym q) (trip .start-inside)) (after-inside w h words (placeOf w start) ds (a .0) c)

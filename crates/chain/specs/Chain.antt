@@ -90,7 +90,7 @@ pub record Linked (a : Journey) (C : List ℕ) (t : Trip) (W : List ℕ) (r : Le
   pub places : List ℕ
   pub along : NextAlong t W places
   pub chain : ChainTo (a .w) (a .h) (a .words) (a .start) (a .goal) (a .goal) (cellsAt C t places)
-  pub shortest : Far (a .w) (a .h) (a .words) (a .start) (a .goal) (a .goal) (lenOf r)
+  pub shortest : Far (a .w) (a .h) (a .words) (a .start) (a .goal) (lenOf r)
 
 -- the column NEXT leads along these places, whose cells are of a floor with at most 16,384 cells, and a list of this size has room for the
 -- start and all legs

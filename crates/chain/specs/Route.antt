@@ -26,7 +26,7 @@ module _ (w h : ℕ) (words : List ℕ) (start goal : ℕ) where
   -- cell number
   pub record Before (v u : ℕ) : Type 0 where
     pub far : Len
-    pub shortest : Far w h words start goal v far
+    pub shortest : Far w h words start v far
     pub nearer : Len
     pub precedes : Precedes w h words start goal v far u nearer
     pub least : (t : ℕ) (m : Len) → Precedes w h words start goal v far t m → u ≤ t

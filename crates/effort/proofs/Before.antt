@@ -21,7 +21,7 @@ use Rattle.effort.proofs.Bridge.{links-positive, far-small, far-shortes
 module _ (w h : ℕ) (words : List ℕ) (start goal : ℕ) (trip : Trip w h words start goal) where
   -- no shortest length to v is more than that to u and what u and v are apart
   pub no-further :
-      {u v : ℕ} {l m : Len} → Joined w h words start goal u v → Far w h words start goal u m → Far w h words start goal v l →
+      {u v : ℕ} {l m : Len} → Joined w h words start goal u v → Far w h words start u m → Far w h words start v l →
       l ≼ (m ⊕ octile (placeOf w u) (placeOf w v))
   no-further {u} {v} {l} {m} j f k =
       let (us, a, e) = f .some in
@@ -33,7 +33,7 @@ module _ (w h : ℕ) (words : List ℕ) (start goal : ℕ) (trip : Trip w h word
 
   -- A place other than the start has one before it.
   pub place-before :
-      {v : ℕ} {l : Len} → PlaceCell w h words start goal v → v ≢ start → Far w h words start goal v l →
+      {v : ℕ} {l : Len} → PlaceCell w h words start goal v → v ≢ start → Far w h words start v l →
       (u : ℕ) × (m : Len) × Precedes w h words start goal v l u m
   place-before {v} {l} p other f =
       ⊎-elim (λ s. absurd (other (s .0))) found
@@ -55,7 +55,7 @@ module _ (w h : ℕ) (words : List ℕ) (start goal : ℕ) (trip : Trip w h word
             },
           )
 
-  module _ {v : ℕ} {l : Len} (f : Far w h words start goal v l) {u : ℕ} {m : Len} (b : Precedes w h words start goal v l u m) where
+  module _ {v : ℕ} {l : Len} (f : Far w h words start v l) {u : ℕ} {m : Len} (b : Precedes w h words start goal v l u m) where
     -- It is nearer.
     pub before-nearer : m ≺ l
     before-nearer = ≺-by-weight (far-small w h words start goal trip v f) less

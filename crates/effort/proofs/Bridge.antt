@@ -110,20 +110,20 @@ module _ (w h : ℕ) (words : List ℕ) (start goal : ℕ) (trip : Trip w h word
       (us ++ vs, both .0, ap weight (both .1) ∙ weight-sum (len us) (len vs) ∙ ap₂ (λ (x y : ℕ). x + y) e (ap weight f))
 
   -- a shortest length has fewer than 16,384 steps
-  pub far-few : (v : ℕ) {l : Len} → Far w h words start goal v l → l .straight + l .diagonal < 16384
+  pub far-few : (v : ℕ) {l : Len} → Far w h words start v l → l .straight + l .diagonal < 16384
   far-few v f = omega (arith, few-steps (within w h words) walkers f, trip .few-cells)
 
   -- so few that its weight tells it
-  pub far-small : (v : ℕ) {l : Len} → Far w h words start goal v l → l .diagonal < 80782
+  pub far-small : (v : ℕ) {l : Len} → Far w h words start v l → l .diagonal < 80782
   far-small v f = omega (arith, far-few v f)
 
   -- the start is at no distance
-  pub start-far : Far w h words start goal start 𝟎
+  pub start-far : Far w h words start start 𝟎
   start-far = record { some = ([], (trip .start-free, refl), refl); least = λ ds v. 𝟎-least (len ds) }
 
   -- a place at a shortest length has a chain of its weight
   far-chain :
-      {v : ℕ} {l : Len} → PlaceCell w h words start goal v → Far w h words start goal v l → Chain (netOf w h words start goal) v (weight l)
+      {v : ℕ} {l : Len} → PlaceCell w h words start goal v → Far w h words start v l → Chain (netOf w h words start goal) v (weight l)
   far-chain {v} {l} p f = by (place-discrete (placeOf w start) (placeOf w v))
     where
       by : Dec (placeOf w start ≡ placeOf w v) → Chain (netOf w h words start goal) v (weight l)
@@ -139,7 +139,7 @@ module _ (w h : ℕ) (words : List ℕ) (start goal : ℕ) (trip : Trip w h word
 
   -- The shortest walk to a place gives the shortest chain.
   pub far-shortest :
-      {v : ℕ} {l : Len} → PlaceCell w h words start goal v → Far w h words start goal v l → Shortest (netOf w h words start goal) v (weight l)
+      {v : ℕ} {l : Len} → PlaceCell w h words start goal v → Far w h words start v l → Shortest (netOf w h words start goal) v (weight l)
   far-shortest {v} {l} p f = record {
     chain = far-chain p f;
     best = λ e c. let (ds, a, q) = chain-walk c in subst (λ (y : ℕ). weight l ≤ y) q (weighs-≼ (far-small v f) (f .least ds a));
@@ -147,7 +147,7 @@ module _ (w h : ℕ) (words : List ℕ) (start goal : ℕ) (trip : Trip w h word
 
   -- Where a walk leads to a cell there is a shortest length.
   pub walk-far :
-      (v : ℕ) (ds : List Dir) → Walk walkers (board w h words) (placeOf w start) (placeOf w v) ds → (l : Len) × Far w h words start goal v l
+      (v : ℕ) (ds : List Dir) → Walk walkers (board w h words) (placeOf w start) (placeOf w v) ds → (l : Len) × Far w h words start v l
   walk-far v ds a = ⊎-elim (λ f. f) (λ none. absurd (none ds a)) (shortest-or-none (within w h words) walkers (placeOf w start) (placeOf w v))
 
   -- Every walk to a place has a chain that weighs no more.
@@ -160,7 +160,7 @@ module _ (w h : ℕ) (words : List ℕ) (start goal : ℕ) (trip : Trip w h word
 
   -- The shortest chain gives the shortest walk.
   pub shortest-far :
-      {v d : ℕ} → Shortest (netOf w h words start goal) v d → (l : Len) × Far w h words start goal v l × (weight l ≡ d)
+      {v d : ℕ} → Shortest (netOf w h words start goal) v d → (l : Len) × Far w h words start v l × (weight l ≡ d)
   shortest-far {v} {d} s =
       let (ds, a, q) = chain-walk (s .chain) in
       let (l, f) = walk-far v ds a in
@@ -169,14 +169,14 @@ module _ (w h : ℕ) (words : List ℕ) (start goal : ℕ) (trip : Trip w h word
   -- The two are the same at a length of few diagonal steps.
   pub shortest-iff :
       {v : ℕ} {l : Len} → PlaceCell w h words start goal v → l .diagonal < 80782 →
-      Far w h words start goal v l ↔ Shortest (netOf w h words start goal) v (weight l)
+      Far w h words start v l ↔ Shortest (netOf w h words start goal) v (weight l)
   shortest-iff {v} {l} p small = (
     far-shortest p,
-    λ s. let (m, f, e) = shortest-far s in subst (λ (x : Len). Far w h words start goal v x) (same-weight (far-small v f) small e) f,
+    λ s. let (m, f, e) = shortest-far s in subst (λ (x : Len). Far w h words start v x) (same-weight (far-small v f) small e) f,
   )
 
   -- They are ordered as their weights are.
-  pub far-order : (u v : ℕ) {l m : Len} → Far w h words start goal u l → Far w h words start goal v m → l ≼ m ↔ weight l ≤ weight m
+  pub far-order : (u v : ℕ) {l m : Len} → Far w h words start u l → Far w h words start v m → l ≼ m ↔ weight l ≤ weight m
   far-order u v f k = (weighs-≼ (far-small u f), ≼-by-weight (far-small v k))
 
   -- A cell can be reached in the net exactly where it is a place and a walk leads to it.
@@ -191,7 +191,7 @@ module _ (w h : ℕ) (words : List ℕ) (start goal : ℕ) (trip : Trip w h word
 
   -- and exactly where it is a place at a shortest length
   pub reachable-far :
-      (v : ℕ) → Reachable (netOf w h words start goal) v ↔ (PlaceCell w h words start goal v × ((l : Len) × Far w h words start goal v l))
+      (v : ℕ) → Reachable (netOf w h words start goal) v ↔ (PlaceCell w h words start goal v × ((l : Len) × Far w h words start v l))
   reachable-far v = (
     λ r. let (ds, a, e) = chain-walk (r .1) in (chain-place (r .1), walk-far v ds a),
     λ (p, (l, f)). (weight l, far-chain p f),

@@ -18,7 +18,7 @@ use Rattle.effort.proofs.Bridge.{chain-place, far-order, far-shortest, 
 module _ (w h : ℕ) (words : List ℕ) (start goal : ℕ) (trip : Trip w h words start goal) where
   -- To rank no later by weights is to rank no later by lengths.
   pub ranks-iff :
-      (v : ℕ) (l far : Len) → Far w h words start goal v l → Far w h words start goal goal far →
+      (v : ℕ) (l far : Len) → Far w h words start v l → Far w h words start goal far →
       RanksNoLater by-cell (weight l) v (weight far) goal ↔ ((l ≺ far) ⊎ ((l ≡ far) × (v ≤ goal)))
   ranks-iff v l far f k = (
     λ r.
@@ -36,7 +36,7 @@ module _ (w h : ℕ) (words : List ℕ) (start goal : ℕ) (trip : Trip w h word
 
   -- What is in reach of the goal in the net is a place that ranks no later than the goal on the floor.
   pub in-reach-iff :
-      (far : Len) → Far w h words start goal goal far → (v : ℕ) →
+      (far : Len) → Far w h words start goal far → (v : ℕ) →
       InReach (netOf w h words start goal) by-cell goal (weight far) v ↔ (PlaceCell w h words start goal v × NoLater w h words start goal far v)
   in-reach-iff far k v = (
     λ (d, s, r).

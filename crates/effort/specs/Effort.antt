@@ -11,29 +11,29 @@ use Rattle.ground.specs.Kind.{Kind, walkers}
 use Rattle.ground.specs.Walk.{Shortest, NoWalk}
 use Rattle.settling.specs.Counts.{Counts, below}
 
+-- l is the length of the shortest walks from the start to cell c, over the floor itself
+abbrev pub Far : ℕ → ℕ → List ℕ → ℕ → ℕ → Len → Type 0
+Far w h words start c l = Shortest walkers (board w h words) (placeOf w start) (placeOf w c) l
+
 module _ (w h : ℕ) (words : List ℕ) (start goal : ℕ) where
   -- the places of a trip: the turning points with start and goal
   pub record PlaceCell (c : ℕ) : Type 0 where
     pub inside : c < w * h
     pub one-of : (corner (board w h words) (placeOf w c) ≡ true) ⊎ ((c ≡ start) ⊎ (c ≡ goal))
 
-  -- l is the length of the shortest walks from the start to cell c, over the floor itself
-  abbrev pub Far : ℕ → Len → Type 0
-  Far c l = Shortest walkers (board w h words) (placeOf w start) (placeOf w c) l
-
   -- cell c is reached, and ranks no later than the goal at length g: it is nearer, or as near with no larger cell number
   pub record NoLater (g : Len) (c : ℕ) : Type 0 where
     pub far : Len
-    pub shortest : Far c far
+    pub shortest : Far w h words start c far
     pub ranks : (far ≺ g) ⊎ ((far ≡ g) × (c ≤ goal))
 
   -- the effort where a walk leads to the goal: the number of places that rank no later than it
   pub record EffortFound (e : ℕ) : Type 0 where
     pub far : Len
-    pub shortest : Far goal far
+    pub shortest : Far w h words start goal far
     pub counted : Counts (λ c. PlaceCell c × NoLater far c) (below (w * h)) e
 
   -- the effort where none does: the number of places that are reached, the start included
   pub record EffortLost (e : ℕ) : Type 0 where
     pub none : NoWalk walkers (board w h words) (placeOf w start) (placeOf w goal)
-    pub counted : Counts (λ c. PlaceCell c × ((l : Len) × Far c l)) (below (w * h)) e
+    pub counted : Counts (λ c. PlaceCell c × ((l : Len) × Far w h words start c l)) (below (w * h)) e

@@ -46,5 +46,5 @@ module _ (w h : ℕ) (words : List ℕ) (start goal : ℕ) where
   -- before v on a shortest walk
   pub record Precedes (v : ℕ) (l : Len) (u : ℕ) (m : Len) : Type 0 where
     pub joined : Joined u v
-    pub far : Far w h words start goal u m
+    pub far : Far w h words start u m
     pub sum : m ⊕ octile (placeOf w u) (placeOf w v) ≡ l

@@ -62,7 +62,7 @@ module _ (a : Asked) where
       none : {l : Len} → Distance a l → 𝟎 ≡ l
       none {l} f =
           start-near (a .w) (a .h) (a .words) (startCell a) (goalCell a) trip
-          (subst (λ (c : ℕ). Far (a .w) (a .h) (a .words) (startCell a) (goalCell a) c l) (sym e) f)
+          (subst (λ (c : ℕ). Far (a .w) (a .h) (a .words) (startCell a) c l) (sym e) f)
 
       free-of-charge : {n : ℕ} → Billed a n → n ≡ 0
       free-of-charge (inl b) = b .1

@@ -57,7 +57,7 @@ module _ (w h : ℕ) (words : List ℕ) (p : Lists) (start goal : ℕ) where
   -- the search found the goal
   pub record SearchFound (r : Answer) (route₀ route₁ : List ℕ) : Type 0 where
     pub far : Len
-    pub shortest : Far w h words start goal goal far
+    pub shortest : Far w h words start goal far
     pub measured : Measured r far
     pub billed : EffortFound w h words start goal (r .effort)
     pub cells : List ℕ
@@ -79,7 +79,7 @@ module _ (w h : ℕ) (words : List ℕ) (p : Lists) (start goal : ℕ) where
 -- a journey whose goal the search settled after `effort` places was walked back: its length is told, and its route written where it has room
 pub record Retraced (a : Journey) (effort : ℕ) (r : Answer) (route₀ route₁ : List ℕ) : Type 0 where
   pub far : Len
-  pub shortest : Far (a .w) (a .h) (a .words) (a .start) (a .goal) (a .goal) far
+  pub shortest : Far (a .w) (a .h) (a .words) (a .start) (a .goal) far
   pub measured : Measured r far
   pub billed : r .effort ≡ effort
   pub cells : List ℕ

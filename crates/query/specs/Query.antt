@@ -47,7 +47,7 @@ module _ (a : Asked) where
 
   -- the length of the shortest walks from start to goal
   abbrev pub Distance : Len → Type 0
-  Distance l = Far (a .w) (a .h) (a .words) startCell goalCell goalCell l
+  Distance l = Far (a .w) (a .h) (a .words) startCell goalCell l
 
   -- the rows of document 01's table that a query can give
   abbrev pub queryRows : List Refusal

@@ -80,15 +80,15 @@ bent-certified : Certified walkers (board 2 2 bent) (placeOf 2 0) bent-claim
 unfolding bent-claim board freeIn certifies step shorter over
 bent-certified = certifies-certified walkers (within 2 2 bent) (placeOf 2 0) bent-claim refl
 
-bent-0 : Far 2 2 bent 0 3 0 (pair 0 0)
+bent-0 : Far 2 2 bent 0 0 (pair 0 0)
 unfolding bent-claim board freeIn step
 bent-0 = certified-shortest bent-certified (placeOf 2 0) [] (refl, refl) refl
 
-bent-2 : Far 2 2 bent 0 3 2 (pair 1 0)
+bent-2 : Far 2 2 bent 0 2 (pair 1 0)
 unfolding bent-claim board freeIn step
 bent-2 = certified-shortest bent-certified (placeOf 2 2) (S ∷ []) ((refl, refl, refl), refl) refl
 
-bent-3 : Far 2 2 bent 0 3 3 (pair 2 0)
+bent-3 : Far 2 2 bent 0 3 (pair 2 0)
 unfolding bent-claim board freeIn step
 bent-3 = certified-shortest bent-certified (placeOf 2 3) (S ∷ E ∷ []) ((refl, refl, (refl, refl, refl)), refl) refl
 
@@ -126,12 +126,12 @@ unfolding first-column board freeIn certifies step shorter over
 P12-none = certified-none (certifies-certified walkers (within 3 1 barred) (placeOf 3 0) first-column refl) (placeOf 3 2) refl
 
 -- a start that stands still has gone no way
-stands-still : (w h : ℕ) (words : List ℕ) (g : ℕ) → board w h words (placeOf w 0 .x) (placeOf w 0 .y) ≡ true → Far w h words 0 g 0 (pair 0 0)
-stands-still w h words g f = record { some = ([], (f, refl), refl); least = λ ds v. 𝟎-least (len ds) }
+stands-still : (w h : ℕ) (words : List ℕ) → board w h words (placeOf w 0 .x) (placeOf w 0 .y) ≡ true → Far w h words 0 0 (pair 0 0)
+stands-still w h words f = record { some = ([], (f, refl), refl); least = λ ds v. 𝟎-least (len ds) }
 
 -- a place that no walk reaches has no distance
-unreached : (w h : ℕ) (words : List ℕ) (g c : ℕ) → NoWay w h words 0 c → ¬ ((l : Len) × Far w h words 0 g c l)
-unreached w h words g c n f = n (f .1 .some .0) (f .1 .some .1)
+unreached : (w h : ℕ) (words : List ℕ) (c : ℕ) → NoWay w h words 0 c → ¬ ((l : Len) × Far w h words 0 c l)
+unreached w h words c n f = n (f .1 .some .0) (f .1 .some .1)
 
 P11-effort : EffortLost 2 2 split 0 3 1
 unfolding board freeIn corner nook
@@ -139,10 +139,10 @@ P11-effort =
     record {
       none = P11-none;
       counted =
-          without (λ p. unreached 2 2 split 3 3 P11-none (p .1))
+          without (λ p. unreached 2 2 split 3 P11-none (p .1))
           (without (λ p. no-place 2 2 split 0 3 2 refl (eqb-false 2 0 refl) (eqb-false 2 3 refl) (p .0))
           (without (λ p. no-place 2 2 split 0 3 1 refl (eqb-false 1 0 refl) (eqb-false 1 3 refl) (p .0))
-          (with {x = 0} (record { inside = omega arith; one-of = inr (inl refl) }, (pair 0 0, stands-still 2 2 split 3 refl)) empty)));
+          (with {x = 0} (record { inside = omega arith; one-of = inr (inl refl) }, (pair 0 0, stands-still 2 2 split refl)) empty)));
     }
 
 P12-effort : EffortLost 3 1 barred 0 2 1
@@ -151,9 +151,9 @@ P12-effort =
     record {
       none = P12-none;
       counted =
-          without (λ p. unreached 3 1 barred 2 2 P12-none (p .1))
+          without (λ p. unreached 3 1 barred 2 P12-none (p .1))
           (without (λ p. no-place 3 1 barred 0 2 1 refl (eqb-false 1 0 refl) (eqb-false 1 2 refl) (p .0))
-          (with {x = 0} (record { inside = omega arith; one-of = inr (inl refl) }, (pair 0 0, stands-still 3 1 barred 2 refl)) empty));
+          (with {x = 0} (record { inside = omega arith; one-of = inr (inl refl) }, (pair 0 0, stands-still 3 1 barred refl)) empty));
     }
 
 -- every row holds

@@ -36,7 +36,7 @@ table =
     ∷ sum 6 (ClearanceAt (board 5 3 hall) N (placeOf 5 1) 0 × ClearanceAt (board 5 3 hall) E (placeOf 5 1) 2)
     ∷ sum 7 ((¬ (LinkedCells walkers 5 3 hall 1 13)) × LinkedCells walkers 5 3 hall 1 11)
     ∷ sum 8 (rowOf 5 hall 1 ≡ 18446744073709551588 ∷ [])
-    ∷ sum 9 ((cornerCells 2 2 bent ≡ 2 ∷ []) × Far 2 2 bent 0 3 3 (pair 2 0))
+    ∷ sum 9 ((cornerCells 2 2 bent ≡ 2 ∷ []) × Far 2 2 bent 0 3 (pair 2 0))
     ∷ sum 10 ((¬ (Legal walkers (board 2 2 bent) (placeOf 2 0) (line (placeOf 2 0) (placeOf 2 3)))) × EffortFound 2 2 bent 0 3 3)
     ∷ sum 11 (NoWay 2 2 split 0 3 × EffortLost 2 2 split 0 3 1)
     ∷ sum 12 ((cornerCells 3 1 barred ≡ []) × NoWay 3 1 barred 0 2 × EffortLost 3 1 barred 0 2 1)
