@@ -42,7 +42,7 @@ pub fn shut(words: &[u64], w: usize, h: usize, x: usize, y: usize) -> bool
     if h <= y {
         return true;
     }
-    !floor::cell(floor::window(words, w, h, x, y), 1, 1)
+    !floor::free_at(words, w, h, x + 1, y + 1)
 }
 
 // 0, or the first of the refusals 9, 10 and 11 that applies, where `room` work entries are lent.
