@@ -5,7 +5,7 @@ ghost use mathlib.Core.Path.{_≡_};
 ghost use Prim.Native.Nat.{_+_, _<_, _≤_};
 ghost use lib.ListN.{length};
 ghost use Rattle.listing.specs.Answers.{Put, inputRefused};
-ghost use Rattle.floorwalk.specs.Replies.{ground, Walkable, figureIn, replyLine, Printable, PutLine, Begins, Room, spotOf, RefusedAt, RepliedTo};
+ghost use Rattle.floorwalk.specs.Replies.{ground, Walkable, replyLine, Printable, PutLine, Begins, Room, spotOf, RefusedAt, RepliedTo};
 use listing::Four;
 use query::Answer;
 
@@ -17,13 +17,6 @@ pub struct Spot {
     pub line: usize,
     pub used: usize,
     pub last: bool,
-}
-
-// The printed figure of an answer's length.
-fn figure(a: Answer) -> u64
-    ensures { λ r. ⌜ r ≡ figureIn a ⌝ }
-{
-    10000 * (a.straight as u64) + 14142 * (a.diagonal as u64)
 }
 
 // Ends a line.
@@ -47,7 +40,7 @@ fn put_reply(out: &mut [u8], a: Answer, route: &[u16]) -> usize
         a.diagonal as u64,
         a.cells as u64,
         a.effort as u64,
-        figure(a),
+        lengths::figure(a.straight, a.diagonal),
     );
     if a.code == 0 {
         let cells = a.cells as usize;

@@ -9,7 +9,7 @@ use Rattle.lengths.specs.Lengths.{Len, 𝟎, _⊕_, _≺_, _≼_}
 use Rattle.lengths.specs.Laws.{⊕-assoc, ⊕-zero, ⊕-≺, ⊕-mono, ≼-refl, ≼-trans, ≼-antisym, ≺→≼, ≺→not-≽, ≺-induction}
 use Rattle.floor.specs.Board.{Board, Padded, Place, Dir, corner}
 use Rattle.ground.specs.Kind.{Kind}
-use Rattle.ground.specs.Walk.{end, Walk, len, Shortest, NoWalk, passes}
+use Rattle.ground.specs.Walk.{end, Walk, len, Shortest, passes}
 use Rattle.ground.specs.Link.{Clear, Direct, Chain, last, join}
 use Rattle.ground.proofs.Logic.{true-or-false}
 use Rattle.ground.proofs.Walks.{𝟎-⊕, len-append, end-append, walk-append, legal-first, legal-rest, positive, ≺-left}
@@ -54,10 +54,6 @@ module _ {K : Kind} (W : Ways K) {B : Board} (padded : Padded B) where
   tame-direct s t ds w m c =
       let e : len ds ≡ K .apart s t = W .tame-apart padded s ds (w .0) m ∙ ap (K .apart s) (w .1) in
       (record { reached = (ds, w, e); clear = subst (λ (l : Len). Clear K B s t l) e c }, e)
-
-  -- A walk as long as its ends are apart is shortest, so where two places are joined directly that is their shortest length.
-  pub direct-shortest : (s t : Place) → Direct K B s t → Shortest K B s t (K .apart s t)
-  direct-shortest s t d = record { some = d .reached; least = W .apart-least B s t }
 
   -- a chain from s to t that is no longer than m
   abbrev pub Chained : Place → Place → Len → Type 0
@@ -131,15 +127,6 @@ module _ {K : Kind} (W : Ways K) {B : Board} (padded : Padded B) where
       let (m, c, k) = walk-chain ds s t two w in
       let (ws, v, f) = chain-walk c in
       subst (λ (x : Len). Chain K B s t x) (≼-antisym (subst (λ (x : Len). m ≼ x) e k) (subst (λ (x : Len). l ≼ x) f (h .least ws v))) c
-
-  -- The least length of a chain is the shortest length of a walk.
-  pub least-chain-shortest : (s t : Place) (l : Len) → s ≢ t → Chain K B s t l → ((m : Len) → Chain K B s t m → l ≼ m) → Shortest K B s t l
-  least-chain-shortest s t l two c least =
-      record { some = chain-walk c; least = λ ds w. let (m, k, h) = walk-chain ds s t two w in ≼-trans (least m k) h }
-
-  -- Where there is no chain there is no walk.
-  pub no-chain-no-walk : (s t : Place) → s ≢ t → ((l : Len) → ¬ (Chain K B s t l)) → NoWalk K B s t
-  no-chain-no-walk s t two none ds w = let (l, c, h) = walk-chain ds s t two w in none l c
 
   -- C. The dichotomy: a shortest walk may be exchanged for one that passes a turning point, or its ends are joined directly.
   pub dichotomy : (s t : Place) (l : Len) → Shortest K B s t l → Passing K B s t l ⊎ (Direct K B s t × (l ≡ K .apart s t))

@@ -2,7 +2,7 @@
 ghost use mathlib.Core.Path.{_≡_};
 ghost use Prim.Native.Nat.{_*_};
 ghost use lib.Dec.{ltb};
-ghost use Rattle.lengths.specs.Lengths.{shorter, compareOf, octileOf, figureOf, lenOf};
+ghost use Rattle.lengths.specs.Lengths.{pair, compareOf, gap, octileOf, figureOf, lenOf};
 
 pub struct Length {
     pub straight: u16,
@@ -47,11 +47,11 @@ pub fn compare(x: Length, y: Length) -> i32
     1
 }
 
-// Whether x is less than y.
-pub fn is_less(x: Length, y: Length) -> bool
-    ensures { λ r. ⌜ r ≡ shorter (lenOf x) (lenOf y) ⌝ }
+// How far apart two columns or rows are.
+pub fn apart(a: usize, b: usize) -> usize
+    ensures { λ r. ⌜ r ≡ gap a b ⌝ }
 {
-    compare(x, y) == -1
+    if a < b { b - a } else { a - b }
 }
 
 // The octile distance for offsets without sign.
@@ -71,9 +71,9 @@ pub fn octile(dx: u16, dy: u16) -> Length
     }
 }
 
-// The printed figure.
-pub fn figure(l: Length) -> u64
-    ensures { λ r. ⌜ r ≡ figureOf (lenOf l) ⌝ }
+// The printed figure, also of an answer's counts, which have 32 bits.
+pub fn figure(straight: u32, diagonal: u32) -> u64
+    ensures { λ r. ⌜ r ≡ figureOf (pair straight diagonal) ⌝ }
 {
-    10000 * (l.straight as u64) + 14142 * (l.diagonal as u64)
+    10000 * (straight as u64) + 14142 * (diagonal as u64)
 }

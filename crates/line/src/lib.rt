@@ -2,7 +2,7 @@
 ghost use mathlib.Core.Path.{_≡_};
 ghost use Prim.Native.Nat.{suc, _+_, _<_, _≤_};
 ghost use lib.ListN.{length};
-ghost use Rattle.lengths.specs.Lengths.{gap, lenOf};
+ghost use Rattle.lengths.specs.Lengths.{lenOf};
 ghost use Rattle.floor.specs.Board.{at, Free, dirAt, shift};
 ghost use Rattle.floor.specs.Refusals.{Tells};
 ghost use Rattle.floor.specs.Words.{board, Floor};
@@ -40,19 +40,12 @@ pub fn nearer(a: usize, b: usize) -> usize
     a + side(a, b) - 1
 }
 
-// How far apart two columns or rows are.
-pub fn apart(a: usize, b: usize) -> usize
-    ensures { λ r. ⌜ r ≡ gap a b ⌝ }
-{
-    if a < b { b - a } else { a - b }
-}
-
 // How many steps the direct line has: the greater offset.
 pub fn line_steps(x: usize, y: usize, u: usize, v: usize) -> usize
     ensures { λ r. ⌜ r ≡ steps (at x y) (at u v) ⌝ }
 {
-    let dx = apart(x, u);
-    let dy = apart(y, v);
+    let dx = lengths::apart(x, u);
+    let dy = lengths::apart(y, v);
     if dx < dy { dy } else { dx }
 }
 
@@ -61,7 +54,7 @@ pub fn line_length(x: usize, y: usize, u: usize, v: usize) -> Length
     requires { ⌜ (x ≤ 255) × (y ≤ 255) × (u ≤ 255) × (v ≤ 255) ⌝ }
     ensures { λ r. ⌜ lenOf r ≡ octile (at x y) (at u v) ⌝ }
 {
-    lengths::octile(apart(x, u) as u16, apart(y, v) as u16)
+    lengths::octile(lengths::apart(x, u) as u16, lengths::apart(y, v) as u16)
 }
 
 // The direct line from the free cell (x, y) to (u, v) is legal.

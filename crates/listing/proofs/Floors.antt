@@ -1,18 +1,17 @@
 -- What is read of a map is a floor: its words are as many as its rows need, its unused bits are 1, and a cell of its board is free exactly
 -- where its letter is. Assumes nothing.
 use Prim.Native.Nat.{ℕ, zero, suc, _+_, _*_, _/_, _%_, _<_, _≤_}
-use mathlib.Core.Bool.{true≢false}
 use mathlib.Core.List.{List}
 use mathlib.Core.Path.{_≡_, sym, ap, _∙_}
 use native.Mathlib.Decide.{decLt}
 use native.Mathlib.Nat.{suc-mul, le-trans, mul-le-mul-left, mul-le-mul-right}
 use native.Mathlib.Omega.{arith}
 use lib.ListN.{length, take}
-use lib.Seq.{getD-take, length-take-le}
-use Rattle.floor.specs.Words.{rowWords, rowOf, bitClear, bitFree, board, Sized, UnusedClear}
+use lib.Seq.{getD-take}
+use Rattle.floor.specs.Words.{rowWords, rowOf, bitClear, bitFree, board}
 use Rattle.floor.proofs.Places.{row-ends, cell-free}
 use Rattle.listing.specs.Maps.{rowPlace, Filled, freeLetter}
-use Rattle.listing.proofs.Rows.{past-letters, row-inside}
+use Rattle.listing.proofs.Rows.{row-inside}
 use Rattle.listing.proofs.Fills.{row-word}
 
 module _ (text : List ℕ) (from w h : ℕ) (before after : List ℕ) (f : Filled text from w h before after) where
@@ -27,16 +26,6 @@ module _ (text : List ℕ) (from w h : ℕ) (before after : List ℕ) (f : Fille
       ap (λ word. bitClear word (x % 64))
       (row-word w words y (x / 64) j ∙ getD-take (h * rowWords w) after (y * rowWords w + x / 64) 0 (omega (arith, row-ends y h (rowWords w) l)) ∙ sym (row-word w after y (x / 64) j))
       ∙ f .drawn y l (f .fit y l) x m
-
-  -- the words are as many as the rows need
-  pub drawn-sized : w ≤ 255 → h ≤ 255 → h * rowWords w ≤ length before → Sized w h words
-  drawn-sized p q r = record { wide = p; high = q; counted = length-take-le (h * rowWords w) after (omega (arith, f .long)) }
-
-  -- no unused bit is 0
-  pub drawn-used : ¬ (UnusedClear w h words)
-  drawn-used u =
-      true≢false
-      (sym (u .clear) ∙ drawn-bit (u .bit) (u .row) (u .row-in) (u .bit-in) ∙ sym (past-letters w (f .fit (u .row) (u .row-in) .letters) (u .bit) (u .unused)))
 
   -- a cell of the board is free exactly where its letter is
   pub drawn-cell : (x y : ℕ) → x < w → (l : y < h) → board w h words (suc x) (suc y) ≡ freeLetter w (f .fit y l .letters) x
