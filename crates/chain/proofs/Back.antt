@@ -14,17 +14,17 @@ use Rattle.floor.specs.Words.{placeOf}
 use Rattle.ground.specs.Kind.{octile}
 use Rattle.plan.specs.Plan.{Lists}
 use Rattle.settling.specs.Chains.{Shortest, wholes}
-use Rattle.settling.specs.Order.{NoLater as Ranks}
+use Rattle.settling.specs.Order.{NoLater}
 use Rattle.settling.specs.Labels.{Labels, SettledAt, Sound}
 use Rattle.settling.proofs.Back.{shortest-unique}
 use Rattle.settling.proofs.Search.{settled-shortest, none-before}
 use Rattle.settling.proofs.Instances.{nearest-no-later}
-use Rattle.effort.specs.Effort.{Far, NoLater}
+use Rattle.effort.specs.Effort.{Far, NoFarther}
 use Rattle.effort.specs.Net.{by-cell, Precedes, apart as weighs}
 use Rattle.effort.proofs.Weights.{weight-sum, ≼-by-weight}
 use Rattle.effort.proofs.Bridge.{far-small}
 use Rattle.effort.proofs.Search.{ranks-iff}
-use Rattle.effort.proofs.Before.{no-further, place-before, before-no-later}
+use Rattle.effort.proofs.Before.{no-further, place-before, before-no-farther}
 use Rattle.search.specs.Places.{apart}
 use Rattle.search.specs.Chart.{Chart, linkAt, linkCount, cell, net, order}
 use Rattle.chain.specs.Route.{Before}
@@ -128,7 +128,7 @@ module _ {w h : ℕ} {words : List ℕ} {p : Lists} {start goal : ℕ} {𝓒 : C
         (t, e ∙ ap some (shortest-unique (net 𝓒) (settled-length (t, e)) s))
 
     -- What ranks no later than a settled place is settled.
-    pub in-reach-settled : {t g u e : ℕ} → SettledAt 𝓢 t g → Shortest (net 𝓒) u e → Ranks (order 𝓒) e u g t → SettledAt 𝓢 u e
+    pub in-reach-settled : {t g u e : ℕ} → SettledAt 𝓢 t g → Shortest (net 𝓒) u e → NoLater (order 𝓒) e u g t → SettledAt 𝓢 u e
     in-reach-settled {t} {g} {u} {e} at-t s l = settled-at (by (𝓢 .settled u) refl) s
       where
         by : (b : Bool) → 𝓢 .settled u ≡ b → 𝓢 .settled u ≡ true
@@ -149,17 +149,17 @@ module _ {w h : ℕ} {words : List ℕ} {p : Lists} {start goal : ℕ} {𝓒 : C
     pub precedes-settled :
         {u : ℕ} (v : ℕ) {g l m : Len} → 𝓢 .settled (𝓒 .trip .to) ≡ true → Far w h words start goal g → Used 𝓒 u →
         Far w h words start (cell 𝓒 v) l →
-        NoLater w h words start goal g (cell 𝓒 v) →
+        NoFarther w h words start goal g (cell 𝓒 v) →
         Precedes w h words start goal (cell 𝓒 v) l (cell 𝓒 u) m →
         SettledAt 𝓢 u (weight m)
     precedes-settled {u} v {g} {l} {m} t k a f n b =
-        let n′ = before-no-later w h words start goal (trip ch) f b n in
+        let n′ = before-no-farther w h words start goal (trip ch) f b n in
         let k′ : Far w h words start (cell 𝓒 (𝓒 .trip .to)) g = subst (λ (c : ℕ). Far w h words start c g) (sym (to-cell ch)) k in
         let at-goal : SettledAt 𝓢 (𝓒 .trip .to) (weight g) = settled-at t (walk-shortest ch (to-used ch) k′) in
         let s : Shortest (net 𝓒) u (weight (n′ .far)) = walk-shortest ch a (n′ .shortest) in
         let r = ranks-iff w h words start goal (trip ch) (cell 𝓒 u) (n′ .far) g (n′ .shortest) k .1 (n′ .ranks) in
         let r′ = rank-same ch (weight (n′ .far)) (weight g) u (𝓒 .trip .to) .1
-        (subst (λ (c : ℕ). Ranks by-cell (weight (n′ .far)) (cell 𝓒 u) (weight g) c) (sym (to-cell ch)) r) in
+        (subst (λ (c : ℕ). NoLater by-cell (weight (n′ .far)) (cell 𝓒 u) (weight g) c) (sym (to-cell ch)) r) in
         settled-at (in-reach-settled at-goal s r′ .0) (walk-shortest ch a (b .far))
 
     -- The walk back, by labels alone. Below, v is settled at d, and some place is settled at no less.

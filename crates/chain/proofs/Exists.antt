@@ -21,7 +21,7 @@ use Rattle.ground.proofs.Choose.{len-discrete, walk-dec}
 use Rattle.ground.proofs.LineEnds.{line-end}
 use Rattle.ground.proofs.Bounded.{shortest-or-none}
 use Rattle.effort.specs.Effort.{PlaceCell, Far}
-use Rattle.effort.specs.Net.{Trip, Joined, Precedes}
+use Rattle.effort.specs.Net.{Startable, Joined, Precedes}
 use Rattle.ground.proofs.Numbers.{within}
 use Rattle.effort.proofs.Bridge.{goal-place}
 use Rattle.effort.proofs.Before.{place-before, before-nearer}
@@ -113,7 +113,7 @@ module _ (w h : ℕ) (words : List ℕ) (start goal : ℕ) where
       let t = placeOf w goal in
       map-dec (λ a. a .0) (λ l. (l, line-end s t)) (walk-dec walkers (board w h words) s t (line s t))
 
-module _ (w h : ℕ) (words : List ℕ) (start goal : ℕ) (trip : Trip w h words start goal) where
+module _ (w h : ℕ) (words : List ℕ) (start goal : ℕ) (trip : Startable w h words start goal) where
   -- A place that is reached, other than the start, has a place before it, which is nearer.
   pub before-exists :
       {v : ℕ} {l : Len} → PlaceCell w h words start goal v → v ≢ start → Far w h words start v l →

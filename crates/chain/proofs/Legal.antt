@@ -21,7 +21,7 @@ use Rattle.ground.proofs.LineEnds.{line-end, line-len}
 use Rattle.ground.proofs.Least.{line-shortest}
 use Rattle.plan.specs.Rising.{In}
 use Rattle.effort.specs.Effort.{Far}
-use Rattle.effort.specs.Net.{Trip}
+use Rattle.effort.specs.Net.{Startable}
 use Rattle.line.specs.Cells.{after, legs}
 use Rattle.line.proofs.Legs.{after-length, after-append}
 use Rattle.chain.specs.Route.{ChainTo, here, back, RouteOf, cellsOf}
@@ -62,7 +62,7 @@ module _ (w h : ℕ) (words : List ℕ) (start goal : ℕ) where
   chain-ends here = ([], refl)
   chain-ends (back {places = places} n b c) = (places, refl)
 
-module _ (w h : ℕ) (words : List ℕ) (start goal : ℕ) (trip : Trip w h words start goal) where
+module _ (w h : ℕ) (words : List ℕ) (start goal : ℕ) (trip : Startable w h words start goal) where
   -- the start is no steps away
   pub start-near : {l : Len} → Far w h words start start l → 𝟎 ≡ l
   start-near f = shortest-unique (record { some = ([], (trip .start-free, refl), refl); least = λ ds a. 𝟎-least (len ds) }) f

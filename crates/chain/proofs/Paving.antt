@@ -14,7 +14,7 @@ use Rattle.marks.specs.Lists.{written}
 use Rattle.search.specs.declared.Trip.{Trip}
 use Rattle.search.specs.Columns.{columnOf, Label, Next}
 use Rattle.search.specs.Places.{cellOf}
-use Rattle.line.specs.Cells.{after, legs, steps, Cell, Written}
+use Rattle.line.specs.Cells.{after, legs, steps, Cell, LineWritten}
 use Rattle.chain.specs.Route.{RouteOf, cellsOf}
 use Rattle.chain.specs.Chain.{Journey, Walked, LeadsAlong, there, on, cellsAt, Linked, Paved}
 use Rattle.chain.proofs.Legal.{route-cells}
@@ -90,7 +90,7 @@ module _ {C : List ℕ} {t : Trip} {W places : List ℕ} where
 
       -- written, it leaves the others
       pub paving-next : {r : ℕ} {route′ : List ℕ} →
-          Written (t .w) (placeOf (t .w) (cellOf C t v)) (placeOf (t .w) (cellOf C t u)) route next r route′ → size C t places ≤ length route →
+          LineWritten (t .w) (placeOf (t .w) (cellOf C t v)) (placeOf (t .w) (cellOf C t u)) route next r route′ → size C t places ≤ length route →
           Paving C t W route₀ places u r route′
       paving-next {r} {route′} done room =
           let (l, (tail, e, along)) = along-next u other entry (p .along) in

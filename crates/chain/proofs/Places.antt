@@ -13,7 +13,7 @@ use Rattle.ground.proofs.Logic.{true-or-false, not-both}
 use Rattle.plan.specs.Plan.{Lists}
 use Rattle.marks.specs.Marks.{cornerCell}
 use Rattle.effort.specs.Effort.{PlaceCell}
-use Rattle.effort.specs.Net.{Trip, apart as weighs}
+use Rattle.effort.specs.Net.{Startable, apart as weighs}
 use Rattle.effort.proofs.Bridge.{trip-of, start-place, goal-place}
 use Rattle.search.specs.Places.{indexOf, cellOf, apart}
 use Rattle.search.specs.Chart.{Chart, cell}
@@ -43,7 +43,7 @@ stands i k = ⊎-elim (λ (l : k ≤ i). ⊎-elim (λ (m : i ≤ k). inr (inl (o
 
 module _ {w h : ℕ} {words : List ℕ} {p : Lists} {start goal : ℕ} {𝓒 : Chart} (ch : Charted w h words p start goal 𝓒) where
   -- what a trip is asked for
-  pub trip : Trip w h words start goal
+  pub trip : Startable w h words start goal
   trip = trip-of (ch .floor) (ch .start-inside) (ch .goal-inside) (ch .start-free)
 
   -- the cell of a corner's index

@@ -13,7 +13,7 @@ ghost use Rattle.marks.specs.Lists.{written};
 ghost use Rattle.search.specs.Columns.{Next, Only};
 ghost use Rattle.search.specs.Places.{cellOf, TwoCells};
 ghost use Rattle.search.specs.Tree.{Room};
-ghost use Rattle.line.specs.Cells.{steps, legs, Cell, Written};
+ghost use Rattle.line.specs.Cells.{steps, legs, Cell, LineWritten};
 ghost use Rattle.chain.specs.Chain.{Journey, Walked, LeadsTo, Lesser, Reached, Prior, cellsAt, Linked, Paved};
 use lengths::Length;
 use search::Trip;
@@ -142,7 +142,7 @@ fn write_leg(corners: &[u16], t: Trip, v: usize, u: usize, route: &mut [u16], fr
     requires first { ⌜ Cell (t .w) (cellOf (now corners) t v % t .w) (cellOf (now corners) t v / t .w) ⌝ }
     requires second { ⌜ Cell (t .w) (cellOf (now corners) t u % t .w) (cellOf (now corners) t u / t .w) ⌝ }
     requires room { ⌜ from + steps (placeOf (t .w) (cellOf (now corners) t v)) (placeOf (t .w) (cellOf (now corners) t u)) ≤ length (now route) ⌝ }
-    ensures { λ r. ⌜ Written (t .w) (placeOf (t .w) (cellOf (now (corners .entry)) t v)) (placeOf (t .w) (cellOf (now (corners .entry)) t u)) (now (route .entry)) from r (now (route .exit)) ⌝ }
+    ensures { λ r. ⌜ LineWritten (t .w) (placeOf (t .w) (cellOf (now (corners .entry)) t v)) (placeOf (t .w) (cellOf (now (corners .entry)) t u)) (now (route .entry)) from r (now (route .exit)) ⌝ }
 {
     let w = t.w;
     let a = search::cell_of(corners, t, v);

@@ -13,12 +13,12 @@ use Rattle.ground.specs.Kind.{walkers, octile}
 use Rattle.ground.specs.Walk.{len}
 use Rattle.ground.proofs.Walks.{walk-append, shortest-unique}
 use Rattle.settling.proofs.Back.{Before, shortest-before}
-use Rattle.effort.specs.Effort.{PlaceCell, Far, NoLater}
-use Rattle.effort.specs.Net.{apart, Trip, Joined, netOf, Precedes}
+use Rattle.effort.specs.Effort.{PlaceCell, Far, NoFarther}
+use Rattle.effort.specs.Net.{apart, Startable, Joined, netOf, Precedes}
 use Rattle.effort.proofs.Weights.{weight-sum, ≼-by-weight, ≺-by-weight}
 use Rattle.effort.proofs.Bridge.{links-positive, far-small, far-shortest, shortest-far}
 
-module _ (w h : ℕ) (words : List ℕ) (start goal : ℕ) (trip : Trip w h words start goal) where
+module _ (w h : ℕ) (words : List ℕ) (start goal : ℕ) (trip : Startable w h words start goal) where
   -- no shortest length to v is more than that to u and what u and v are apart
   pub no-further :
       {u v : ℕ} {l m : Len} → Joined w h words start goal u v → Far w h words start u m → Far w h words start v l →
@@ -73,8 +73,8 @@ module _ (w h : ℕ) (words : List ℕ) (start goal : ℕ) (trip : Trip w h word
         less = plain (weight m) (apart w u v) (weight l) some weighs
 
     -- So where v ranks no later than the goal, the place before it does.
-    pub before-no-later : {g : Len} → NoLater w h words start goal g v → NoLater w h words start goal g u
-    before-no-later {g} n =
+    pub before-no-farther : {g : Len} → NoFarther w h words start goal g v → NoFarther w h words start goal g u
+    before-no-farther {g} n =
         let e : n .far ≡ l = shortest-unique (n .shortest) f in
         record {
           far = m;

@@ -13,7 +13,7 @@ use Rattle.floor.specs.Words.{board, placeOf}
 use Rattle.ground.proofs.Walks.{shortest-unique}
 use Rattle.settling.specs.Counts.{Counts, empty, with, without, below}
 use Rattle.settling.proofs.Tally.{counts-unique, counts-fewer}
-use Rattle.effort.specs.Effort.{PlaceCell, NoLater, EffortFound, EffortLost}
+use Rattle.effort.specs.Effort.{PlaceCell, NoFarther, EffortFound, EffortLost}
 
 -- a count of the numbers below n that are a or have a property, next to a count k of those that have it
 record OneMore (Q : ℕ → Type 0) (a n k : ℕ) : Type 0 where
@@ -63,7 +63,7 @@ module _ (w h : ℕ) (words : List ℕ) (start goal : ℕ) where
   pub found-unique : {d e : ℕ} → EffortFound w h words start goal d → EffortFound w h words start goal e → d ≡ e
   found-unique {d} {e} p q =
       counts-unique
-      (subst (λ (l : Len). Counts (λ c. PlaceCell w h words start goal c × NoLater w h words start goal l c) (below (w * h)) d)
+      (subst (λ (l : Len). Counts (λ c. PlaceCell w h words start goal c × NoFarther w h words start goal l c) (below (w * h)) d)
       (shortest-unique (p .shortest) (q .shortest)) (p .counted))
       (q .counted)
 

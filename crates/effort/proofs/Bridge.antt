@@ -26,14 +26,14 @@ use Rattle.settling.specs.Order.{Consistent}
 use Rattle.settling.proofs.Back.{shortest-unique}
 use Rattle.settling.proofs.Instances.{nearest-consistent}
 use Rattle.effort.specs.Effort.{PlaceCell, Far}
-use Rattle.effort.specs.Net.{by-cell, apart, Trip, Joined, netOf}
+use Rattle.effort.specs.Net.{by-cell, apart, Startable, Joined, netOf}
 use Rattle.effort.proofs.Cells.{apart-positive}
 use Rattle.effort.proofs.Weights.{weight-sum, weighs-≼, ≼-by-weight, same-weight}
 
 -- a floor that no row refuses, with two cells of it of which the first is free, makes a trip
 pub trip-of :
     {w h : ℕ} {words : List ℕ} {start goal : ℕ} → Floor w h words → start < w * h → goal < w * h → Free (board w h words) (placeOf w start) →
-    Trip w h words start goal
+    Startable w h words start goal
 trip-of f s g free = record { few-cells = f .few-cells; start-inside = s; goal-inside = g; start-free = free }
 
 module _ (w h : ℕ) (words : List ℕ) (start goal : ℕ) where
@@ -84,7 +84,7 @@ module _ (w h : ℕ) (words : List ℕ) (start goal : ℕ) where
       (add-assoc d (weight (octile s p)) (weight l) ∙ ap (λ (y : ℕ). d + y) (sym (weight-sum (octile s p) l)))
       (chain-on r x v (d + weight (octile s p)) px pv ex ev (link-on s p n k u x d pu px eu ex c))
 
-module _ (w h : ℕ) (words : List ℕ) (start goal : ℕ) (trip : Trip w h words start goal) where
+module _ (w h : ℕ) (words : List ℕ) (start goal : ℕ) (trip : Startable w h words start goal) where
   -- the start is a place
   pub start-place : PlaceCell w h words start goal start
   start-place = record { inside = trip .start-inside; one-of = inr (inl refl) }

@@ -21,8 +21,8 @@ module _ (w h : ℕ) (words : List ℕ) (start goal : ℕ) where
     pub inside : c < w * h
     pub one-of : (corner (board w h words) (placeOf w c) ≡ true) ⊎ ((c ≡ start) ⊎ (c ≡ goal))
 
-  -- cell c is reached, and ranks no later than the goal at length g: it is nearer, or as near with no larger cell number
-  pub record NoLater (g : Len) (c : ℕ) : Type 0 where
+  -- cell c is reached, and is no farther than the goal at length g: it is nearer, or as near with no larger cell number
+  pub record NoFarther (g : Len) (c : ℕ) : Type 0 where
     pub far : Len
     pub shortest : Far w h words start c far
     pub ranks : (far ≺ g) ⊎ ((far ≡ g) × (c ≤ goal))
@@ -31,7 +31,7 @@ module _ (w h : ℕ) (words : List ℕ) (start goal : ℕ) where
   pub record EffortFound (e : ℕ) : Type 0 where
     pub far : Len
     pub shortest : Far w h words start goal far
-    pub counted : Counts (λ c. PlaceCell c × NoLater far c) (below (w * h)) e
+    pub counted : Counts (λ c. PlaceCell c × NoFarther far c) (below (w * h)) e
 
   -- the effort where none does: the number of places that are reached, the start included
   pub record EffortLost (e : ℕ) : Type 0 where

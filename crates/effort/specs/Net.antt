@@ -24,8 +24,8 @@ abbrev pub apart : ℕ → ℕ → ℕ → ℕ
 apart w u v = weight (octile (placeOf w u) (placeOf w v))
 
 module _ (w h : ℕ) (words : List ℕ) (start goal : ℕ) where
-  -- what a trip is asked for: a floor of at most 16,384 cells, two cells of it, and the start free
-  pub record Trip : Type 0 where
+  -- a trip can be started: a floor of at most 16,384 cells, two cells of it, and the start free
+  pub record Startable : Type 0 where
     pub few-cells : w * h ≤ 16384
     pub start-inside : start < w * h
     pub goal-inside : goal < w * h

@@ -27,7 +27,7 @@ use Rattle.chain.proofs.Legal.{route-cells}
 use Rattle.chain.proofs.Single.{route-unique}
 use Rattle.effort.proofs.Bounds.{lost-unique}
 use Rattle.query.specs.declared.Answer.{Answer}
-use Rattle.query.specs.Query.{Asked, Shut, startCell, goalCell, workSize, Distance, Found, NoRoute, QueryOutcome}
+use Rattle.query.specs.Query.{Asked, Shut, startCell, goalCell, workSize, Distance, WalkFound, NoRoute, QueryOutcome}
 use Rattle.query.proofs.Outcome.{codes, code-kind, found-same, no-route-same}
 use Rattle.query.proofs.Passed.{passed, trip-passed}
 use Rattle.listing.specs.Lines.{At, TwoLine}
@@ -267,7 +267,7 @@ module _ (g : Ground) (x y u v : ℕ) where
     code-once = first-unique (rowsFor (length route′) (length work′)) (r .code) (r′ .code) (subst (λ (rs : List Refusal). FirstOf rs (r .code)) (λ i. rowsFor (e i) (d i)) (p .number)) (q .number)
 
     -- the numbers of a walk say nothing of the lists lent
-    found-over : Found (asked g x y u v route′ work′) r′ → Found (asked g x y u v route work) r′
+    found-over : WalkFound (asked g x y u v route′ work′) r′ → WalkFound (asked g x y u v route work) r′
     found-over f = record { far = f .far; shortest = f .shortest; straight = f .straight; diagonal = f .diagonal; cells = f .cells; billed = f .billed }
 
     -- nor do those of no walk
@@ -339,8 +339,8 @@ module _ (g : Ground) (x y u v : ℕ) where
       }
 
 -- four numbers
-abbrev Trip : Type 0
-Trip = (ℕ × ℕ) × (ℕ × ℕ)
+abbrev FourNumbers : Type 0
+FourNumbers = (ℕ × ℕ) × (ℕ × ℕ)
 
 module _ (g : Ground) (text : List ℕ) where
   -- There is one reply to the line at a place, and one place where the next begins.
@@ -349,7 +349,7 @@ module _ (g : Ground) (text : List ℕ) where
       let e = four-once text at ((p .x, p .y), (p .u, p .v)) ((q .x, q .y), (q .u, q .v)) next next′ (p .line) (q .line) in (
         e .1,
         trip-once g (p .x) (p .y) (p .u) (p .v) (p .reply)
-            (subst (λ (t : Trip). TripReply g (t .0 .0) (t .0 .1) (t .1 .0) (t .1 .1) b) (sym (e .0)) (q .reply)),
+            (subst (λ (t : FourNumbers). TripReply g (t .0 .0) (t .0 .1) (t .1 .0) (t .1 .1) b) (sym (e .0)) (q .reply)),
       )
 
   -- where the lines end, no line is answered

@@ -11,10 +11,10 @@ use Rattle.floorwalk.proofs.Pieces.{passed-then}
 
 module _ (g : Ground) (text : List ℕ) (more : Bool) where
   -- what is written piece by piece from a spot on, each from where the one before it was flushed
-  pub data Written : Spot → List ℕ → Type 0 where
-    last-piece : {from r : Spot} {before after : List ℕ} (p : PieceMade g text more from before after r) → r .last ≡ true → Written from (p .bytes ++ p .tail)
+  pub data PiecesWritten : Spot → List ℕ → Type 0 where
+    last-piece : {from r : Spot} {before after : List ℕ} (p : PieceMade g text more from before after r) → r .last ≡ true → PiecesWritten from (p .bytes ++ p .tail)
     next-piece : {from r : Spot} {before after rest : List ℕ} (p : PieceMade g text more from before after r) →
-        r .last ≡ false → Written (spotOf (r .at) (r .line) 0 (r .last)) rest → Written from (p .bytes ++ p .tail ++ rest)
+        r .last ≡ false → PiecesWritten (spotOf (r .at) (r .line) 0 (r .last)) rest → PiecesWritten from (p .bytes ++ p .tail ++ rest)
 
   -- the lines from a spot on are answered to the end
   record Rest (from : Spot) (bytes : List ℕ) : Type 0 where
@@ -26,7 +26,7 @@ module _ (g : Ground) (text : List ℕ) (more : Bool) where
     ending : Ending text more at line tail
     joined : bytes ≡ replies ++ tail
 
-  rest-of : {from : Spot} {bytes : List ℕ} → Written from bytes → Rest from bytes
+  rest-of : {from : Spot} {bytes : List ℕ} → PiecesWritten from bytes → Rest from bytes
   rest-of (last-piece {r = r} p e) =
       record { at = r .at; line = r .line; replies = p .bytes; tail = p .tail; passed = p .passed; ending = p .ended e; joined = refl }
   rest-of (next-piece {from = from} {r = r} {rest = rest} p e w) =
@@ -46,6 +46,6 @@ module _ (g : Ground) (text : List ℕ) (more : Bool) where
       }
 
   -- the whole listing of an open floor
-  pub whole : (next used : ℕ) (bytes : List ℕ) → OpenFloor text g next → Written (spotOf next (g .h + 2) used false) bytes → Listing text more (groundLine g ++ bytes)
+  pub whole : (next used : ℕ) (bytes : List ℕ) → OpenFloor text g next → PiecesWritten (spotOf next (g .h + 2) used false) bytes → Listing text more (groundLine g ++ bytes)
   whole next used bytes o w =
       let q = rest-of w in subst (λ b. Listing text more (groundLine g ++ b)) (sym (q .joined)) (walked o (q .passed) (q .ending))

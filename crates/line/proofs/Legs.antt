@@ -9,7 +9,7 @@ use Rattle.floor.specs.Board.{Place, Dir, go}
 use Rattle.floor.specs.Words.{placeOf, cellOf}
 use Rattle.ground.specs.Walk.{end}
 use Rattle.ground.specs.Line.{line}
-use Rattle.line.specs.Cells.{after, legs, steps, Written}
+use Rattle.line.specs.Cells.{after, legs, steps, LineWritten}
 
 -- ---- the cells of a walk
 module _ (w : ℕ) where
@@ -29,7 +29,7 @@ module _ (w : ℕ) where
   line-cells s t = after-length s (line s t)
 
   -- one leg more written, the others still to be: the list will be the same
-  pub legs-next : (a b : ℕ) (rest l l′ : List ℕ) (j r e : ℕ) → Written w (placeOf w a) (placeOf w b) l j r l′ → r ≤ length l → r ≤ e →
+  pub legs-next : (a b : ℕ) (rest l l′ : List ℕ) (j r e : ℕ) → LineWritten w (placeOf w a) (placeOf w b) l j r l′ → r ≤ length l → r ≤ e →
       take r l′ ++ (legs w (b ∷ rest) ++ drop e l′) ≡ take j l ++ (legs w (a ∷ b ∷ rest) ++ drop e l)
   legs-next a b rest l l′ j r e written fits before =
       ap₂ (λ (u v : List ℕ). u ++ (legs w (b ∷ rest) ++ v)) front back

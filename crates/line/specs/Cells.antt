@@ -34,6 +34,6 @@ pub record Cell (w x y : ℕ) : Type 0 where
   pub rows : y * w + w ≤ 16384
 
 -- the cells of the direct line after s, the last of which is t's, stand from an entry on, r is the entry after them, and all others are as before
-pub record Written (w : ℕ) (s t : Place) (entry : List ℕ) (from r : ℕ) (exit : List ℕ) : Type 0 where
+pub record LineWritten (w : ℕ) (s t : Place) (entry : List ℕ) (from r : ℕ) (exit : List ℕ) : Type 0 where
   pub next : r ≡ from + steps s t
   pub cells : exit ≡ take from entry ++ (after w s (line s t) ++ drop (from + steps s t) entry)

@@ -9,7 +9,7 @@ ghost use Rattle.floor.specs.Words.{board, Floor};
 ghost use Rattle.ground.specs.Kind.{octile, walkers};
 ghost use Rattle.ground.specs.Walk.{Legal};
 ghost use Rattle.ground.specs.Line.{toward, diagonal-way, line};
-ghost use Rattle.line.specs.Cells.{steps, Nearer, Cell, Written};
+ghost use Rattle.line.specs.Cells.{steps, Nearer, Cell, LineWritten};
 use lengths::Length;
 
 // The directions by their offsets of column and row, each 0, 1 or 2 for -1, 0 and 1. The one that stands still is of no account.
@@ -89,7 +89,7 @@ pub fn write_line(
     from: usize,
 ) -> usize
     requires { ⌜ Cell w x y × Cell w u v × (from + steps (at x y) (at u v) ≤ length (now route)) ⌝ }
-    ensures { λ r. ⌜ Written w (at x y) (at u v) (now (route .entry)) from r (now (route .exit)) ⌝ }
+    ensures { λ r. ⌜ LineWritten w (at x y) (at u v) (now (route .entry)) from r (now (route .exit)) ⌝ }
 {
     let n = line_steps(x, y, u, v);
     let mut column = x;

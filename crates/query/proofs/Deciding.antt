@@ -17,8 +17,8 @@ use Rattle.line.specs.Cells.{Cell}
 use Rattle.chain.specs.Route.{LineClear}
 use Rattle.query.specs.Query.{Asked, startCell, goalCell, workSize, queryRows, QueryOutcome}
 use Rattle.plan.specs.Plan.{Fits}
-use Rattle.query.specs.Steps.{Judged, planRows, endRows, lateRows, Ready, LateOutcome}
-use Rattle.query.specs.Answers.{LineAnswer, Searchable, SearchAnswer, Beyond, Refused}
+use Rattle.query.specs.Steps.{Judged, planRows, endRows, lateRows, Unrefused, LateOutcome}
+use Rattle.query.specs.Answers.{LineAnswer, Searchable, SearchAnswer, Beyond, CodeOnly}
 use Rattle.query.specs.declared.Answer.{Answer}
 use Rattle.query.proofs.Early.{plan-refuses, ends-refuse, late-decides}
 use Rattle.query.proofs.Late.{late-line, late-lost, late-search}
@@ -34,7 +34,7 @@ cleared-again n W W′ b =
     ∙ sym (ap (λ (m : ℕ). replicate n 0 ++ drop m W) (length-replicate n 0))
 
 -- ---- a question that is ready
-module _ (a : Asked) (q : Ready a) where
+module _ (a : Asked) (q : Unrefused a) where
   start-place : placeOf (a .w) (startCell a) ≡ at (a .sx) (a .sy)
   start-place = place-of-number (a .w) (a .sx) (a .sy) (q .start-column)
 
@@ -136,7 +136,7 @@ module _ (a : Asked) where
       ⊎-elim (λ p. let e = p .1 in omega arith) (λ p. ⊎-elim (λ p. let e = p .1 in omega arith) (λ p. let e = p .1 in omega arith) (p .1)) f
 
   -- refused
-  refused-outcome : (c : ℕ) (r : Answer) → FirstOf (queryRows a) c → 0 < c → c < 12 → Refused c r → QueryOutcome a r (a .route) (a .work)
+  refused-outcome : (c : ℕ) (r : Answer) → FirstOf (queryRows a) c → 0 < c → c < 12 → CodeOnly c r → QueryOutcome a r (a .route) (a .work)
   refused-outcome c r f l m z =
       let e = z .code in
       record {
@@ -150,10 +150,10 @@ module _ (a : Asked) where
         work-kept = λ i j. refl;
       }
 
-  pub by-plan : (c : ℕ) (r : Answer) → Judged (a .w) (a .h) (a .words) (a .plan) c → 0 < c → Refused c r → QueryOutcome a r (a .route) (a .work)
+  pub by-plan : (c : ℕ) (r : Answer) → Judged (a .w) (a .h) (a .words) (a .plan) c → 0 < c → CodeOnly c r → QueryOutcome a r (a .route) (a .work)
   by-plan c r j l z = refused-outcome c r (plan-refuses a c j l) l (plan-below c (j .number)) z
 
-  pub by-ends : (c : ℕ) (r : Answer) → Judged (a .w) (a .h) (a .words) (a .plan) 0 → FirstOf ends c → 0 < c → Refused c r →
+  pub by-ends : (c : ℕ) (r : Answer) → Judged (a .w) (a .h) (a .words) (a .plan) 0 → FirstOf ends c → 0 < c → CodeOnly c r →
       QueryOutcome a r (a .route) (a .work)
   by-ends c r j f l z = refused-outcome c r (ends-refuse a c j f l) l (ends-below c f) z
 

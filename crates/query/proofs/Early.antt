@@ -15,7 +15,7 @@ use Rattle.floor.proofs.Tables.{first-here, first-later, not-so}
 use Rattle.ground.proofs.Logic.{true-or-false}
 use Rattle.plan.specs.Plan.{Lists, Fits}
 use Rattle.query.specs.Query.{Asked, Shut, queryRows}
-use Rattle.query.specs.Steps.{Judged, planRows, endRows, earlyRows, lateRows, Ready}
+use Rattle.query.specs.Steps.{Judged, planRows, endRows, earlyRows, lateRows, Unrefused}
 
 -- none of the first rows applies where none of all does
 first-only : (rs ss : List Refusal) → Numbered rs → FirstOf (rs ++ ss) 0 → FirstOf rs 0
@@ -89,11 +89,11 @@ module _ (a : Asked) where
       inside i m k = omega (arith, k)
 
   -- and everything is ready
-  pub ready : Judged (a .w) (a .h) (a .words) (a .plan) 0 → FirstOf ends 0 → Ready a
+  pub ready : Judged (a .w) (a .h) (a .words) (a .plan) 0 → FirstOf ends 0 → Unrefused a
   ready j f = by f
     where
       make : ¬ (Shut (a .w) (a .h) (a .words) (a .sx) (a .sy)) → ¬ (Shut (a .w) (a .h) (a .words) (a .gx) (a .gy)) →
-          ¬ (length (a .work) < 6 * (length (a .plan .corners) + 2)) → Ready a
+          ¬ (length (a .work) < 6 * (length (a .plan .corners) + 2)) → Unrefused a
       make s g r =
           let p = open-cell (a .sx) (a .sy) s in
           let q = open-cell (a .gx) (a .gy) g in
@@ -109,6 +109,6 @@ module _ (a : Asked) where
             room = omega (arith, r);
           }
 
-      by : FirstOf (endRows (a .w) (a .h) (a .words) (a .sx) (a .sy) (a .gx) (a .gy) (length (a .plan .corners)) (length (a .work))) 0 → Ready a
+      by : FirstOf (endRows (a .w) (a .h) (a .words) (a .sx) (a .sy) (a .gx) (a .gy) (length (a .plan .corners)) (length (a .work))) 0 → Unrefused a
       by (inl p) = absurd (let e = p .1 in omega arith)
       by (inr p) = ⊎-elim (λ q. absurd (let e = q .1 in omega arith)) (λ q. ⊎-elim (λ r. absurd (let e = r .1 in omega arith)) (λ r. make (p .0) (q .0) (r .0)) (q .1)) (p .1)

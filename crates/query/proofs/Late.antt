@@ -20,8 +20,8 @@ use Rattle.marks.specs.Lists.{written}
 use Rattle.effort.specs.Effort.{Far}
 use Rattle.line.specs.Cells.{after}
 use Rattle.chain.specs.Route.{LineClear, RouteOf, cellsOf}
-use Rattle.query.specs.Query.{Asked, startCell, goalCell, workSize, Distance, Found, Billed, Written}
-use Rattle.query.specs.Steps.{lateRows, Ready, LateOutcome}
+use Rattle.query.specs.Query.{Asked, startCell, goalCell, workSize, Distance, WalkFound, Billed, RouteWritten}
+use Rattle.query.specs.Steps.{lateRows, Unrefused, LateOutcome}
 use Rattle.query.specs.Answers.{Measured, RouteLeft, LineAnswer, SearchFound, SearchLost}
 use Rattle.query.specs.declared.Answer.{Answer}
 
@@ -36,7 +36,7 @@ module _ (a : Asked) where
     some-walk : ¬ (NoWalk walkers (board (a .w) (a .h) (a .words)) (placeOf (a .w) (startCell a)) (placeOf (a .w) (goalCell a)))
     some-walk n = let s = shortest .some in n (s .0) (s .1)
 
-    got : Found a r
+    got : WalkFound a r
     got = record { far = far; shortest = shortest; straight = measured .straight; diagonal = measured .diagonal; cells = measured .cells; billed = billed }
 
     pub late-found : LateOutcome a r route₁ work₁

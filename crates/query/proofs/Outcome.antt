@@ -14,7 +14,7 @@ use Rattle.ground.proofs.Walks.{shortest-unique}
 use Rattle.marks.specs.Lists.{written}
 use Rattle.plan.specs.Rising.{In}
 use Rattle.effort.proofs.Bounds.{found-unique, lost-unique}
-use Rattle.query.specs.Query.{Asked, startCell, goalCell, queryRows, Billed, Found, NoRoute, Written, QueryOutcome}
+use Rattle.query.specs.Query.{Asked, startCell, goalCell, queryRows, Billed, WalkFound, NoRoute, RouteWritten, QueryOutcome}
 use Rattle.chain.specs.Route.{cellsOf}
 use Rattle.query.specs.declared.Answer.{Answer}
 use Rattle.chain.proofs.Single.{route-unique}
@@ -74,7 +74,7 @@ module _ (a : Asked) where
   billed-unique (inr p) (inr q) = found-unique (a .w) (a .h) (a .words) (startCell a) (goalCell a) (p .1) (q .1)
 
   -- Where there is a walk there is one answer with a number.
-  pub found-same : {r s : Answer} → r .code ≡ s .code → Found a r → Found a s → r ≡ s
+  pub found-same : {r s : Answer} → r .code ≡ s .code → WalkFound a r → WalkFound a s → r ≡ s
   found-same c p q =
       let e : p .far ≡ q .far = shortest-unique (p .shortest) (q .shortest) in
       answer-eq c
@@ -89,7 +89,7 @@ module _ (a : Asked) where
       answer-eq c (p .straight ∙ sym (q .straight)) (p .diagonal ∙ sym (q .diagonal)) (p .cells ∙ sym (q .cells)) e
 
   -- There is one route list after a route was written.
-  pub written-unique : {route route′ : List ℕ} → Written a route → Written a route′ → route ≡ route′
+  pub written-unique : {route route′ : List ℕ} → RouteWritten a route → RouteWritten a route′ → route ≡ route′
   written-unique p q =
       p .there
       ∙ ap (λ (cs : List ℕ). written cs (a .route))

@@ -17,7 +17,7 @@ use Rattle.ground.specs.Kind.{walkers}
 use Rattle.ground.specs.Walk.{NoWalk}
 use Rattle.ground.proofs.Logic.{true-or-false}
 use Rattle.ground.proofs.Walks.{place-eq}
-use Rattle.effort.specs.Net.{Trip}
+use Rattle.effort.specs.Net.{Startable}
 use Rattle.query.specs.Query.{Asked, Shut, startCell, goalCell, workSize, Distance, queryRows, Answered}
 use Rattle.plan.specs.Plan.{Fits}
 use Rattle.chain.specs.Route.{cellsOf}
@@ -86,7 +86,7 @@ module _ (a : Asked) where
       other n l m e = ⊎-elim (λ z. omega arith) (λ z. omega arith) k
 
   -- So start and goal make a trip.
-  pub trip-passed : {c : ℕ} → Passed c → Trip (a .w) (a .h) (a .words) (startCell a) (goalCell a)
+  pub trip-passed : {c : ℕ} → Passed c → Startable (a .w) (a .h) (a .words) (startCell a) (goalCell a)
   trip-passed p =
       let s = open-cell (a .w) (a .h) (a .words) (a .sx) (a .sy) (p .start-open) in
       let g = open-cell (a .w) (a .h) (a .words) (a .gx) (a .gy) (p .goal-open) in

@@ -13,10 +13,10 @@ use Rattle.ground.specs.Kind.{walkers}
 use Rattle.ground.specs.Walk.{Legal}
 use Rattle.ground.specs.Line.{diagonal-way, straight-way, line}
 use Rattle.effort.specs.Effort.{Far, EffortLost}
-use Rattle.effort.specs.Net.{Trip}
+use Rattle.effort.specs.Net.{Startable}
 use Rattle.line.specs.Cells.{after}
 use Rattle.chain.specs.Route.{LineClear, RouteOf, cellsOf}
-use Rattle.query.specs.Query.{Asked, startCell, goalCell, Distance, Billed, Found, Answered, QueryOutcome}
+use Rattle.query.specs.Query.{Asked, startCell, goalCell, Distance, Billed, WalkFound, Answered, QueryOutcome}
 use Rattle.query.specs.declared.Answer.{Answer}
 use Rattle.chain.proofs.Legal.{start-near}
 use Rattle.query.proofs.Passed.{passed, answered-late, trip-passed}
@@ -50,7 +50,7 @@ module _ (a : Asked) where
   stay-answer {r} o k e =
       ⊎-elim (λ z. found (inl z) (o .found (inl z))) (⊎-elim (λ z. absurd (lost (o .lost z .1))) (λ z. found (inr z) (o .found (inr z)))) k
     where
-      trip : Trip (a .w) (a .h) (a .words) (startCell a) (goalCell a)
+      trip : Startable (a .w) (a .h) (a .words) (startCell a) (goalCell a)
       trip = trip-passed a (passed a (r .code) (o .number) (answered-late a r k))
 
       clear : LineClear (a .w) (a .h) (a .words) (startCell a) (goalCell a)
@@ -68,7 +68,7 @@ module _ (a : Asked) where
       free-of-charge (inl b) = b .1
       free-of-charge (inr b) = absurd (b .0 clear)
 
-      found : (r .code ≡ 0) ⊎ (r .code ≡ 13) → Found a r → Stayed r
+      found : (r .code ≡ 0) ⊎ (r .code ≡ 13) → WalkFound a r → Stayed r
       found c f = record {
         code = c;
         straight = f .straight ∙ ap (λ (l : Len). l .straight) (sym (none (f .shortest)));

@@ -10,7 +10,7 @@ use Rattle.floor.specs.Board.{Place}
 use Rattle.ground.specs.Kind.{octile}
 use Rattle.ground.specs.Line.{line}
 use Rattle.marks.specs.Lists.{written}
-use Rattle.line.specs.Cells.{after, steps, Written}
+use Rattle.line.specs.Cells.{after, steps, LineWritten}
 use Rattle.chain.specs.Route.{cellsOf}
 use Rattle.query.specs.Answers.{Told, LineAnswer}
 use Rattle.query.specs.declared.Answer.{Answer}
@@ -35,7 +35,7 @@ told-full {l} {effort} {room} {r} told n =
 
 -- the start's cell was written first, then the line's
 pub line-written : (w n : ℕ) (s t : Place) (entry : List ℕ) {r : ℕ} {exit : List ℕ} → 0 < length entry →
-    Written w s t (set entry 0 n) 1 r exit → exit ≡ written (n ∷ after w s (line s t)) entry
+    LineWritten w s t (set entry 0 n) 1 r exit → exit ≡ written (n ∷ after w s (line s t)) entry
 line-written w n s t entry {r} {exit} some done =
     let long : 1 + steps s t ≡ suc (length (after w s (line s t))) = omega (arith, line-cells w s t) in
     done .cells
@@ -53,7 +53,7 @@ module _ (s t : Place) (route : List ℕ) {l : Len} {r : Answer} (long : l ≡ o
   line-room e = let m = told-fits told-line e in let q = steps-octile s t in omega arith
 
   -- the line was written
-  pub line-taken : (w n : ℕ) {k : ℕ} {exit : List ℕ} → r .code ≡ 0 → Written w s t (set route 0 n) 1 k exit → LineAnswer w n s t r route exit
+  pub line-taken : (w n : ℕ) {k : ℕ} {exit : List ℕ} → r .code ≡ 0 → LineWritten w s t (set route 0 n) 1 k exit → LineAnswer w n s t r route exit
   line-taken w n e done =
       let m = line-room e in
       let f = told-fits told-line e in

@@ -15,7 +15,7 @@ use Rattle.ground.specs.Walk.{Walk, len}
 use Rattle.marks.specs.Lists.{written}
 use Rattle.plan.specs.Rising.{In}
 use Rattle.marks.proofs.Selects.{written-long}
-use Rattle.effort.specs.Net.{Trip}
+use Rattle.effort.specs.Net.{Startable}
 use Rattle.line.specs.Cells.{after}
 use Rattle.query.specs.Query.{Asked, startCell, goalCell, QueryOutcome}
 use Rattle.chain.specs.Route.{cellsOf}
@@ -66,5 +66,5 @@ module _ (a : Asked) where
       clear : Passed a (r .code)
       clear = passed a (r .code) (o .number) (inl z)
 
-      trip : Trip (a .w) (a .h) (a .words) (startCell a) (goalCell a)
+      trip : Startable (a .w) (a .h) (a .words) (startCell a) (goalCell a)
       trip = trip-passed a clear

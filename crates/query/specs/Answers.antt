@@ -92,7 +92,7 @@ pub record Beyond (count : ℕ) (W W′ : List ℕ) : Type 0 where
   pub rest : drop count W′ ≡ drop count W
 
 -- a refusal: a number, and nothing else
-pub record Refused (c : ℕ) (r : Answer) : Type 0 where
+pub record CodeOnly (c : ℕ) (r : Answer) : Type 0 where
   pub code : r .code ≡ c
   pub straight : r .straight ≡ 0
   pub diagonal : r .diagonal ≡ 0

@@ -68,7 +68,7 @@ module _ (a : Asked) where
       ⊎ ((¬ (LineClear (a .w) (a .h) (a .words) startCell goalCell)) × EffortFound (a .w) (a .h) (a .words) startCell goalCell e)
 
   -- the numbers returned where there is a walk
-  pub record Found (r : Answer) : Type 0 where
+  pub record WalkFound (r : Answer) : Type 0 where
     pub far : Len
     pub shortest : Distance far
     pub straight : r .straight ≡ far .straight
@@ -87,7 +87,7 @@ module _ (a : Asked) where
   Answered r = (r .code ≡ 0) ⊎ ((r .code ≡ 12) ⊎ (r .code ≡ 13))
 
   -- the route was written
-  pub record Written (route : List ℕ) : Type 0 where
+  pub record RouteWritten (route : List ℕ) : Type 0 where
     pub cells : List ℕ
     pub is-route : RouteOf (a .w) (a .h) (a .words) startCell goalCell cells
     pub there : route ≡ written cells (a .route)
@@ -95,10 +95,10 @@ module _ (a : Asked) where
   -- the outcome of a query, whatever it is asked
   pub record QueryOutcome (r : Answer) (route work : List ℕ) : Type 0 where
     pub number : FirstOf queryRows (r .code)
-    pub found : (r .code ≡ 0) ⊎ (r .code ≡ 13) → Found r
+    pub found : (r .code ≡ 0) ⊎ (r .code ≡ 13) → WalkFound r
     pub lost : r .code ≡ 12 → NoRoute r × EffortLost (a .w) (a .h) (a .words) startCell goalCell (r .effort)
     pub refused : 0 < r .code → r .code < 12 → NoRoute r × (r .effort ≡ 0)
-    pub route-written : r .code ≡ 0 → Written route
+    pub route-written : r .code ≡ 0 → RouteWritten route
     pub route-kept : 0 < r .code → route ≡ a .route
     pub work-cleared : Answered r → work ≡ written (replicate workSize 0) (a .work)
     pub work-kept : 0 < r .code → r .code < 12 → work ≡ a .work

@@ -14,7 +14,7 @@ use Rattle.ground.specs.Walk.{NoWalk}
 use Rattle.marks.specs.Lists.{written}
 use Rattle.plan.specs.Plan.{Lists, Fits}
 use Rattle.effort.specs.Effort.{EffortLost}
-use Rattle.query.specs.Query.{Asked, Shut, startCell, goalCell, workSize, Distance, Found, NoRoute, Written}
+use Rattle.query.specs.Query.{Asked, Shut, startCell, goalCell, workSize, Distance, WalkFound, NoRoute, RouteWritten}
 use Rattle.chain.specs.Route.{cellsOf}
 use Rattle.query.specs.declared.Answer.{Answer}
 
@@ -47,7 +47,7 @@ module _ (a : Asked) where
       ∷ []
 
   -- none of the rows 1 to 11 applies
-  pub record Ready : Type 0 where
+  pub record Unrefused : Type 0 where
     pub floor : Floor (a .w) (a .h) (a .words)
     pub fits : Fits (a .w) (a .h) (a .words) (a .plan)
     pub start-column : a .sx < a .w
@@ -61,8 +61,8 @@ module _ (a : Asked) where
   -- what a query comes to that none of them refuses
   pub record LateOutcome (r : Answer) (route work : List ℕ) : Type 0 where
     pub number : FirstOf lateRows (r .code)
-    pub found : (r .code ≡ 0) ⊎ (r .code ≡ 13) → Found a r
+    pub found : (r .code ≡ 0) ⊎ (r .code ≡ 13) → WalkFound a r
     pub lost : r .code ≡ 12 → NoRoute a r × EffortLost (a .w) (a .h) (a .words) (startCell a) (goalCell a) (r .effort)
-    pub route-written : r .code ≡ 0 → Written a route
+    pub route-written : r .code ≡ 0 → RouteWritten a route
     pub route-kept : 0 < r .code → route ≡ a .route
     pub work-cleared : work ≡ written (replicate (workSize a) 0) (a .work)

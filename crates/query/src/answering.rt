@@ -8,7 +8,7 @@ ghost use Rattle.floor.specs.Words.{numberOf};
 ghost use Rattle.search.specs.Columns.{Next, Only};
 ghost use Rattle.line.specs.Cells.{Cell};
 ghost use Rattle.chain.specs.Chain.{Journey, Walked};
-ghost use Rattle.query.specs.Steps.{Ready, LateOutcome};
+ghost use Rattle.query.specs.Steps.{Unrefused, LateOutcome};
 ghost use Rattle.query.specs.Answers.{Told, LineAnswer, Retraced, Searchable, SearchAnswer, Beyond};
 use super::Answer;
 use super::preparing;
@@ -131,7 +131,7 @@ pub fn answer(
     route: &mut [u16],
     work: &mut [u32],
 ) -> Answer
-    requires { ⌜ Ready (record { w = w; h = h; words = now words; plan = record { clear = now clear; corners = now corners; starts = now starts; neighbours = now neighbours }; sx = sx; sy = sy; gx = gx; gy = gy; route = now route; work = now work }) ⌝ }
+    requires { ⌜ Unrefused (record { w = w; h = h; words = now words; plan = record { clear = now clear; corners = now corners; starts = now starts; neighbours = now neighbours }; sx = sx; sy = sy; gx = gx; gy = gy; route = now route; work = now work }) ⌝ }
     ensures { λ r. ⌜ LateOutcome (record { w = w; h = h; words = now (words .entry); plan = record { clear = now (clear .entry); corners = now (corners .entry); starts = now (starts .entry); neighbours = now (neighbours .entry) }; sx = sx; sy = sy; gx = gx; gy = gy; route = now (route .entry); work = now (work .entry) }) r (now (route .exit)) (now (work .exit)) ⌝ }
 {
     if line::line_legal(words, w, h, sx, sy, gx, gy) {

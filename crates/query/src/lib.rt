@@ -2,7 +2,7 @@
 ghost use Rattle.floor.specs.Words.{Floor};
 ghost use Rattle.plan.specs.Plan.{Fits};
 ghost use Rattle.query.specs.Query.{QueryOutcome};
-ghost use Rattle.query.specs.Answers.{Refused};
+ghost use Rattle.query.specs.Answers.{CodeOnly};
 
 mod answering;
 mod flags;
@@ -22,7 +22,7 @@ pub struct Answer {
 
 // The answer that gives a refusal's number.
 fn refused(code: u32) -> Answer
-    ensures { λ r. ⌜ Refused code r ⌝ }
+    ensures { λ r. ⌜ CodeOnly code r ⌝ }
 {
     Answer {
         code,
