@@ -19,20 +19,20 @@ use Rattle.settling.specs.Labels.{Labels, SettledAt, Sound}
 use Rattle.settling.proofs.Back.{shortest-unique}
 use Rattle.settling.proofs.Search.{settled-shortest, none-before}
 use Rattle.settling.proofs.Instances.{nearest-no-later}
-use Rattle.effort.specs.Effort.{Far, NoFarther}
-use Rattle.effort.specs.Net.{by-cell, Precedes, apart as weighs}
+use Rattle.effort.specs.Effort.{Far}
+use Rattle.effort.specs.Net.{Precedes, apart as weighs}
 use Rattle.effort.proofs.Weights.{weight-sum, ≼-by-weight}
 use Rattle.effort.proofs.Bridge.{far-small}
-use Rattle.effort.proofs.Search.{ranks-iff}
-use Rattle.effort.proofs.Before.{no-further, place-before, before-no-farther}
+use Rattle.effort.proofs.Before.{no-further, place-before}
 use Rattle.search.specs.Places.{apart}
 use Rattle.search.specs.Chart.{Chart, linkAt, linkCount, cell, net, order}
 use Rattle.chain.specs.Route.{Before}
 use Rattle.chain.specs.Charted.{Charted, Used}
-use Rattle.chain.proofs.Places.{trip, cell-place, from-used, from-cell, to-used, to-cell, place-index, used-same}
+use Rattle.search.proofs.Links.{positive, consistent}
+use Rattle.chain.proofs.Fairness.{fair}
+use Rattle.chain.proofs.Places.{trip, cell-place, from-used, from-cell, place-index, used-same}
 use Rattle.chain.proofs.Links.{joined-turned, link-there, link-back, link-turned}
-use Rattle.chain.proofs.Chains.{weight-same, shortest-there, shortest-walk, walk-shortest, link-positive, net-consistent}
-use Rattle.chain.proofs.Efforts.{rank-same}
+use Rattle.chain.proofs.Chains.{weight-same, shortest-there, shortest-walk, walk-shortest}
 
 module _ {w h : ℕ} {words : List ℕ} {p : Lists} {start goal : ℕ} {𝓒 : Chart} (ch : Charted w h words p start goal 𝓒) where
   -- What is linked to v, has a shortest length, and with the link adds up to v's, is what precedes v on the floor.
@@ -102,7 +102,7 @@ module _ {w h : ℕ} {words : List ℕ} {p : Lists} {start goal : ℕ} {𝓒 : C
   -- What is linked and adds up is nearer.
   pub adds-nearer : (u v d e : ℕ) → net 𝓒 .Link v u → Used 𝓒 v → e + net 𝓒 .weight u v ≡ d → e < d
   adds-nearer u v d e k b q =
-      ⊎-elim (λ z. absurd (link-positive ch u v (link-turned ch v u b k) z)) (λ (z : 0 < net 𝓒 .weight u v). plain (net 𝓒 .weight u v) q z)
+      ⊎-elim (λ z. absurd (positive 𝓒 (fair ch) u v (link-turned ch v u b k) z)) (λ (z : 0 < net 𝓒 .weight u v). plain (net 𝓒 .weight u v) q z)
       (le-or-lt (net 𝓒 .weight u v) 0)
     where
       plain : (x : ℕ) → e + x ≡ d → 0 < x → e < d
@@ -111,7 +111,7 @@ module _ {w h : ℕ} {words : List ℕ} {p : Lists} {start goal : ℕ} {𝓒 : C
   module _ {𝓢 : Labels wholes} (ok : Sound (net 𝓒) (order 𝓒) 𝓢) where
     -- A settled label is a shortest length
     pub settled-length : {v d : ℕ} → SettledAt 𝓢 v d → Shortest (net 𝓒) v d
-    settled-length = settled-shortest (net 𝓒) (order 𝓒) (net-consistent ch) 𝓢 ok
+    settled-length = settled-shortest (net 𝓒) (order 𝓒) (consistent 𝓒 (fair ch)) 𝓢 ok
 
     -- of a place
     pub settled-used : {v d : ℕ} → SettledAt 𝓢 v d → Used 𝓒 v
@@ -134,7 +134,7 @@ module _ {w h : ℕ} {words : List ℕ} {p : Lists} {start goal : ℕ} {𝓒 : C
         by : (b : Bool) → 𝓢 .settled u ≡ b → 𝓢 .settled u ≡ true
         by true q = q
         by false q =
-            let k = nearest-no-later wholes (cell 𝓒) g e t u .0 (none-before (net 𝓒) (order 𝓒) (net-consistent ch) 𝓢 ok at-t q (s .chain)) in
+            let k = nearest-no-later wholes (cell 𝓒) g e t u .0 (none-before (net 𝓒) (order 𝓒) (consistent 𝓒 (fair ch)) 𝓢 ok at-t q (s .chain)) in
             let m = nearest-no-later wholes (cell 𝓒) e g u t .0 l in
             let same : u ≡ t =
             used-same ch u t (shortest-there ch s .0) (settled-used at-t) (le-antisymm (m .1 (k .0)) (k .1 (m .0))) in
@@ -144,23 +144,6 @@ module _ {w h : ℕ} {words : List ℕ} {p : Lists} {start goal : ℕ} {𝓒 : C
     pub nearer-settled : {t g u e : ℕ} → SettledAt 𝓢 t g → Shortest (net 𝓒) u e → e < g → SettledAt 𝓢 u e
     nearer-settled {t} {g} {u} {e} at-t s l =
         in-reach-settled at-t s (nearest-no-later wholes (cell 𝓒) e g u t .1 (omega arith, λ k. absurd (omega arith)))
-
-    -- What precedes a place that ranks no later than the goal is settled, where the goal is.
-    pub precedes-settled :
-        {u : ℕ} (v : ℕ) {g l m : Len} → 𝓢 .settled (𝓒 .trip .to) ≡ true → Far w h words start goal g → Used 𝓒 u →
-        Far w h words start (cell 𝓒 v) l →
-        NoFarther w h words start goal g (cell 𝓒 v) →
-        Precedes w h words start goal (cell 𝓒 v) l (cell 𝓒 u) m →
-        SettledAt 𝓢 u (weight m)
-    precedes-settled {u} v {g} {l} {m} t k a f n b =
-        let n′ = before-no-farther w h words start goal (trip ch) f b n in
-        let k′ : Far w h words start (cell 𝓒 (𝓒 .trip .to)) g = subst (λ (c : ℕ). Far w h words start c g) (sym (to-cell ch)) k in
-        let at-goal : SettledAt 𝓢 (𝓒 .trip .to) (weight g) = settled-at t (walk-shortest ch (to-used ch) k′) in
-        let s : Shortest (net 𝓒) u (weight (n′ .far)) = walk-shortest ch a (n′ .shortest) in
-        let r = ranks-iff w h words start goal (trip ch) (cell 𝓒 u) (n′ .far) g (n′ .shortest) k .1 (n′ .ranks) in
-        let r′ = rank-same ch (weight (n′ .far)) (weight g) u (𝓒 .trip .to) .1
-        (subst (λ (c : ℕ). NoLater by-cell (weight (n′ .far)) (cell 𝓒 u) (weight g) c) (sym (to-cell ch)) r) in
-        settled-at (in-reach-settled at-goal s r′ .0) (walk-shortest ch a (b .far))
 
     -- The walk back, by labels alone. Below, v is settled at d, and some place is settled at no less.
     module _ {t g v d : ℕ} (at-t : SettledAt 𝓢 t g) (at-v : SettledAt 𝓢 v d) (no-further : d ≤ g) where

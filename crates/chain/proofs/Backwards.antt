@@ -130,13 +130,15 @@ module _ {a : Journey} {C S E : List ℕ} {t : Trip} {W : List ℕ} (k : Walked 
         let p = entry-settled v (r .settled) .0 in
         record { some = omega arith; settled = rw less (ltb-true 0 (settledAt t W u) q); adds = rw less (omega arith) }
 
-    -- v, and the goal, with their labels
+    -- v is settled at its label
     at-v : SettledAt (labelsOf (t .k + 2) W) v (labelAt t W v - 1)
     at-v = entry-settled v (r .settled) .1
 
+    -- and so is the goal
     at-goal : SettledAt (labelsOf (t .k + 2) W) (t .to) (labelAt t W (t .to) - 1)
     at-goal = entry-settled (t .to) (goal-reached .settled) .1
 
+    -- v is no further than the goal
     no-further : labelAt t W v - 1 ≤ labelAt t W (t .to) - 1
     no-further = let n = r .near in omega arith
 
@@ -280,10 +282,11 @@ module _ {a : Journey} {C S E : List ℕ} {t : Trip} {W : List ℕ} (k : Walked 
 
 -- ---- what a change of the column NEXT leaves
 module _ (t : Trip) {W W′ : List ℕ} (o : Only (t .k + 2) W Next W′) where
-  -- labels and settled places
+  -- the labels stay
   label-kept : columnOf (t .k + 2) W′ Label ≡ columnOf (t .k + 2) W Label
   label-kept = o .others Label (λ h. omega arith)
 
+  -- and what is settled
   settled-kept : columnOf (t .k + 2) W′ Settled ≡ columnOf (t .k + 2) W Settled
   settled-kept = o .others Settled (λ h. omega arith)
 

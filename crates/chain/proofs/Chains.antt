@@ -1,5 +1,5 @@
 -- The chains of a charted trip are those of its places' cells, so shortest lengths are the same, and fit. Assumes nothing.
-use Prim.Native.Nat.{ℕ, _+_, _≤_}
+use Prim.Native.Nat.{ℕ, _+_}
 use mathlib.Core.List.{List}
 use mathlib.Core.Path.{_≡_, sym, _∙_, ap, ap₂, subst, subst₂}
 use native.Mathlib.Omega.{arith}
@@ -7,13 +7,11 @@ use Rattle.lengths.specs.Lengths.{Len}
 use Rattle.lengths.specs.Laws.{weight}
 use Rattle.plan.specs.Plan.{Lists}
 use Rattle.settling.specs.Chains.{Chain, here, step, Reachable, Shortest}
-use Rattle.settling.specs.Order.{Consistent}
-use Rattle.settling.proofs.Instances.{nearest-consistent}
 use Rattle.effort.specs.Effort.{Far}
 use Rattle.effort.specs.Net.{Joined, netOf, apart as weighs}
-use Rattle.effort.proofs.Bridge.{links-positive, far-few, far-shortest, shortest-far}
+use Rattle.effort.proofs.Bridge.{far-few, far-shortest, shortest-far}
 use Rattle.search.specs.Places.{apart}
-use Rattle.search.specs.Chart.{Chart, cell, net, order}
+use Rattle.search.specs.Chart.{Chart, cell, net}
 use Rattle.search.specs.Search.{Bounded}
 use Rattle.chain.specs.Charted.{Charted, Used}
 use Rattle.chain.proofs.Places.{apart-same, trip, cell-place, from-used, from-cell, place-index, used-same}
@@ -84,12 +82,3 @@ module _ {w h : ℕ} {words : List ℕ} {p : Lists} {start goal : ℕ} {𝓒 : C
       let (l, f, e) = shortest-walk s in
       let few = far-few w h words start goal (trip ch) (cell 𝓒 v) f in
       omega arith
-
-  -- links have length
-  pub link-positive : (u v : ℕ) → net 𝓒 .Link u v → net 𝓒 .weight u v ≤ 0 → ⊥
-  link-positive u v l k =
-      links-positive w h words start goal (cell 𝓒 u) (cell 𝓒 v) (link-there ch u v l .1) (subst (λ (x : ℕ). x ≤ 0) (weight-same u v) k)
-
-  -- No link leads to an earlier rank.
-  pub net-consistent : Consistent (order 𝓒) (net 𝓒)
-  net-consistent = nearest-consistent (net 𝓒) (cell 𝓒) link-positive

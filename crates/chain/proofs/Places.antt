@@ -1,5 +1,5 @@
 -- The places of a charted trip by index and by cell: one index for each place. Assumes nothing.
-use Prim.Native.Nat.{ℕ, suc, _+_, _*_, _/_, _%_, _≤_, _<_}
+use Prim.Native.Nat.{ℕ, _+_, _*_, _/_, _%_, _≤_, _<_}
 use mathlib.Core.Bool.{true, false}
 use mathlib.Core.List.{List}
 use mathlib.Core.Logic.{_⊎_, inl, inr, ⊎-elim, _≢_}
@@ -7,8 +7,9 @@ use mathlib.Core.Path.{_≡_, refl, sym, _∙_, ap, ap₂, subst}
 use native.Mathlib.Omega.{arith}
 use lib.ListN.{length, getD}
 use borrow.Author.Tests.{lt-ltb, le-ltb, eq-eqb, ne-eqb}
-use Rattle.lengths.specs.Lengths.{gap, octileOf}
+use Rattle.lengths.specs.Lengths.{octileOf}
 use Rattle.lengths.specs.Laws.{weight, le-or-lt}
+use Rattle.lengths.specs.Octile.{gap-comm, gap-suc}
 use Rattle.ground.proofs.Logic.{true-or-false, not-both}
 use Rattle.plan.specs.Plan.{Lists}
 use Rattle.marks.specs.Marks.{cornerCell}
@@ -24,18 +25,12 @@ use Rattle.chain.proofs.Corners.{corners-ascend, corner-at, corner-inde
 -- The two crates say alike how far two cells are apart.
 pub apart-same : (w a b : ℕ) → apart w a b ≡ weighs w a b
 unfolding apart
-apart-same w a b = ap₂ (λ (x y : ℕ). weight (octileOf x y)) (shifted (a % w) (b % w)) (shifted (a / w) (b / w))
-  where
-    shifted : (m n : ℕ) → gap m n ≡ gap (suc m) (suc n)
-    shifted m n = omega arith
+apart-same w a b = ap₂ (λ (x y : ℕ). weight (octileOf x y)) (gap-suc (a % w) (b % w)) (gap-suc (a / w) (b / w))
 
 -- and it is the same both ways
 pub apart-comm : (w a b : ℕ) → apart w a b ≡ apart w b a
 unfolding apart
-apart-comm w a b = ap₂ (λ (x y : ℕ). weight (octileOf x y)) (turned (a % w) (b % w)) (turned (a / w) (b / w))
-  where
-    turned : (m n : ℕ) → gap m n ≡ gap n m
-    turned m n = omega arith
+apart-comm w a b = ap₂ (λ (x y : ℕ). weight (octileOf x y)) (gap-comm (a % w) (b % w)) (gap-comm (a / w) (b / w))
 
 -- a number is below another, or it, or beyond it
 pub stands : (i k : ℕ) → (i < k) ⊎ ((i ≡ k) ⊎ (k < i))

@@ -43,6 +43,7 @@ module _ (w h : ℕ) (words : List ℕ) (start goal : ℕ) where
     pub chain : ChainTo goal places
     pub walked : cells ≡ start ∷ legs w places
 
+  -- the route: the direct line where it is clear, else by a chain
   abbrev pub RouteOf : List ℕ → Type 0
   RouteOf cells =
       (LineClear × (cells ≡ start ∷ after w (placeOf w start) (line (placeOf w start) (placeOf w goal)))) ⊎ ByChain cells

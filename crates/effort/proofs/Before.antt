@@ -1,19 +1,19 @@
--- The place before another on a shortest walk: it is nearer, and ranks no later.
+-- The place before another on a shortest walk: there is one, and it is nearer.
 -- Assumes nothing.
 use Prim.Native.Nat.{ℕ, _+_, _<_}
 use mathlib.Core.Path.{_≡_, sym, _∙_, ap, subst}
 use mathlib.Core.List.{List, _++_}
-use mathlib.Core.Logic.{inl, ⊎-elim, _≢_}
+use mathlib.Core.Logic.{⊎-elim, _≢_}
 use native.Mathlib.Nat.{le-of-eq}
 use native.Mathlib.Omega.{arith}
 use Rattle.lengths.specs.Lengths.{Len, _⊕_, _≺_, _≼_}
-use Rattle.lengths.specs.Laws.{le-or-lt, weight, ≼-antisym, ≺-trans}
+use Rattle.lengths.specs.Laws.{le-or-lt, weight, ≼-antisym}
 use Rattle.floor.specs.Words.{board, placeOf}
 use Rattle.ground.specs.Kind.{walkers, octile}
 use Rattle.ground.specs.Walk.{len}
-use Rattle.ground.proofs.Walks.{walk-append, shortest-unique}
+use Rattle.ground.proofs.Walks.{walk-append}
 use Rattle.settling.proofs.Back.{Before, shortest-before}
-use Rattle.effort.specs.Effort.{PlaceCell, Far, NoFarther}
+use Rattle.effort.specs.Effort.{PlaceCell, Far}
 use Rattle.effort.specs.Net.{apart, Startable, Joined, netOf, Precedes}
 use Rattle.effort.proofs.Weights.{weight-sum, ≼-by-weight, ≺-by-weight}
 use Rattle.effort.proofs.Bridge.{links-positive, far-small, far-shortest, shortest-far}
@@ -71,18 +71,3 @@ module _ (w h : ℕ) (words : List ℕ) (start goal : ℕ) (trip : Startable w h
 
         less : weight m < weight l
         less = plain (weight m) (apart w u v) (weight l) some weighs
-
-    -- So where v ranks no later than the goal, the place before it does.
-    pub before-no-farther : {g : Len} → NoFarther w h words start goal g v → NoFarther w h words start goal g u
-    before-no-farther {g} n =
-        let e : n .far ≡ l = shortest-unique (n .shortest) f in
-        record {
-          far = m;
-          shortest = b .far;
-          ranks =
-              inl
-              (⊎-elim
-              (λ (k : n .far ≺ g). ≺-trans before-nearer (subst (λ (x : Len). x ≺ g) e k))
-              (λ k. subst (λ (x : Len). m ≺ x) (sym e ∙ k .0) before-nearer)
-              (n .ranks));
-        }

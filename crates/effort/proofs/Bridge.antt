@@ -28,7 +28,7 @@ use Rattle.settling.proofs.Instances.{nearest-consistent}
 use Rattle.effort.specs.Effort.{PlaceCell, Far}
 use Rattle.effort.specs.Net.{by-cell, apart, Startable, Joined, netOf}
 use Rattle.effort.proofs.Cells.{apart-positive}
-use Rattle.effort.proofs.Weights.{weight-sum, weighs-≼, ≼-by-weight, same-weight}
+use Rattle.effort.proofs.Weights.{weight-sum, weighs-≼, ≼-by-weight}
 
 -- a floor that no row refuses, with two cells of it of which the first is free, makes a trip
 pub trip-of :
@@ -166,16 +166,7 @@ module _ (w h : ℕ) (words : List ℕ) (start goal : ℕ) (trip : Startable w h
       let (l, f) = walk-far v ds a in
       (l, f, shortest-unique (netOf w h words start goal) (far-shortest (chain-place (s .chain)) f) s)
 
-  -- The two are the same at a length of few diagonal steps.
-  pub shortest-iff :
-      {v : ℕ} {l : Len} → PlaceCell w h words start goal v → l .diagonal < 80782 →
-      Far w h words start v l ↔ Shortest (netOf w h words start goal) v (weight l)
-  shortest-iff {v} {l} p small = (
-    far-shortest p,
-    λ s. let (m, f, e) = shortest-far s in subst (λ (x : Len). Far w h words start v x) (same-weight (far-small v f) small e) f,
-  )
-
-  -- They are ordered as their weights are.
+  -- Shortest lengths are ordered as their weights are.
   pub far-order : (u v : ℕ) {l m : Len} → Far w h words start u l → Far w h words start v m → l ≼ m ↔ weight l ≤ weight m
   far-order u v f k = (weighs-≼ (far-small u f), ≼-by-weight (far-small v k))
 

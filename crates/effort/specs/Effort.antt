@@ -7,7 +7,7 @@ use mathlib.Core.Path.{_≡_}
 use Rattle.lengths.specs.Lengths.{Len, _≺_}
 use Rattle.floor.specs.Board.{corner}
 use Rattle.floor.specs.Words.{board, placeOf}
-use Rattle.ground.specs.Kind.{Kind, walkers}
+use Rattle.ground.specs.Kind.{walkers}
 use Rattle.ground.specs.Walk.{Shortest, NoWalk}
 use Rattle.settling.specs.Counts.{Counts, below}
 

@@ -18,6 +18,7 @@ pub record Fits (w h : ℕ) : Type 0 where
   pub high : h ≤ 255
   pub few-cells : w * h ≤ 16384
 
+-- sizes that are not refused are within the limits
 pub fits : (w h : ℕ) → ¬ (SizeRefused w h) → Fits w h
 fits w h n =
     record {
@@ -34,6 +35,7 @@ fits w h n =
     at-most : (a b : ℕ) → ¬ (b < a) → a ≤ b
     at-most a b m = omega (arith, m)
 
+-- numbers that do not differ are the same
 same-count : (a b : ℕ) → ¬ (¬ (a ≡ b)) → a ≡ b
 same-count a b n = by (ℕ-discrete a b)
   where

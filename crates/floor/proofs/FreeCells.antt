@@ -2,7 +2,7 @@
 use Prim.Native.Nat.{ℕ, zero, suc, _+_, _-_, _*_, _/_, _%_, _<_, _≤_}
 use mathlib.Core.Bool.{false}
 use mathlib.Core.List.{List}
-use mathlib.Core.Path.{_≡_, refl, sym, ap, ap₂, _∙_}
+use mathlib.Core.Path.{_≡_, sym, ap, ap₂, _∙_}
 use native.Mathlib.Nat.{suc-mul, zero-mul, add-zero}
 use native.Mathlib.Omega.{arith}
 use lib.ListN.{length, drop, length-take, length-drop}
@@ -27,6 +27,7 @@ module _ (w h : ℕ) (words : List ℕ) (f : Floor w h words) where
   inRow : ℕ → ℕ
   inRow y = sumBelow w (λ x. one (board w h words (suc x) (suc y)))
 
+  -- a row has as many words as the width takes
   row-long : (y : ℕ) → y < h → length (rowOf w words y) ≡ rowWords w
   row-long y l = rw (length-take, length-drop) (omega (arith, row-ends y h (rowWords w) l, f .sized .counted))
 
@@ -43,6 +44,7 @@ module _ (w h : ℕ) (words : List ℕ) (f : Floor w h words) where
   row-used y l x p q =
       not-so _ (λ e. f .used (record { row = y; bit = x; row-in = l; unused = p; bit-in = q; clear = e }))
 
+  -- the clear bits of row y are its free cells
   one-row : (y : ℕ) → y < h → sumBelow (64 * rowWords w) (λ k. one (bitFree words (64 * (y * rowWords w) + k))) ≡ inRow y
   unfolding inRow
   one-row y l =
@@ -52,6 +54,7 @@ module _ (w h : ℕ) (words : List ℕ) (f : Floor w h words) where
       ∙ row-count w (rowOf w words y) (omega arith) (λ x p q. row-used y l x p (rw long at q))
       ∙ sum-same w _ _ (λ x m. ap one (sym (cell-free w h words x y m l)))
 
+  -- the clear bits of the first m rows are their free cells
   rows : (m : ℕ) → m ≤ h → clearBits words (m * rowWords w) ≡ sumBelow m inRow
   unfolding clearBits sumBelow
   rows zero l = rw zero-mul
@@ -59,6 +62,7 @@ module _ (w h : ℕ) (words : List ℕ) (f : Floor w h words) where
       let next : 64 * (suc m * rowWords w) ≡ 64 * (m * rowWords w) + 64 * rowWords w = omega (arith, suc-mul m (rowWords w)) in
       rw next (sum-add (64 * (m * rowWords w)) (64 * rowWords w) (λ x. one (bitFree words x)) ∙ ap₂ _+_ (rows m (omega arith)) (one-row m l))
 
+  -- The clear bits of all words are the free cells.
   pub free-cells-are : clearBits words (length words) ≡ freeCells w h words
   unfolding freeCells inRow
   free-cells-are = rw (f .sized .counted) (rows h (omega arith))

@@ -13,16 +13,19 @@ use Rattle.floor.specs.Window.{triple}
 use Rattle.floor.specs.Words.{bitClear, bitFree, rowOf, rowWords, freeIn, board, OneWord, IsRow}
 
 module _ (w : ℕ) (row : List ℕ) where
+  -- column 0 of a row is outside
   pub freeIn-zero : (x : ℕ) → x ≡ 0 → false ≡ freeIn w row x
   unfolding freeIn
   freeIn-zero zero e = refl
   freeIn-zero (suc x) e = absurd (omega arith)
 
+  -- and so are the columns past its cells
   pub freeIn-past : (x : ℕ) → w < x → false ≡ freeIn w row x
   unfolding freeIn
   freeIn-past zero l = refl
   freeIn-past (suc x) l = rw (le-ltb x w (le-of-suc-le-suc l))
 
+  -- any other column is that of a bit
   pub freeIn-inside : (x : ℕ) → (x ≡ 0 → ⊥) → x ≤ w → bitFree row (x - 1) ≡ freeIn w row x
   unfolding freeIn
   freeIn-inside zero n l = absurd (n refl)
@@ -31,16 +34,19 @@ module _ (w : ℕ) (row : List ℕ) where
       rw (lt-ltb x w l, e)
 
 module _ (w h : ℕ) (words : List ℕ) where
+  -- row 0 of the board is outside
   pub free-zero : (y : ℕ) → y ≡ 0 → (x : ℕ) → false ≡ board w h words x y
   unfolding board
   free-zero zero e x = refl
   free-zero (suc y) e x = absurd (omega arith)
 
+  -- and so are the rows past the last
   pub free-past : (y : ℕ) → h < y → (x : ℕ) → false ≡ board w h words x y
   unfolding board
   free-past zero l x = refl
   free-past (suc y) l x = rw (le-ltb y h (le-of-suc-le-suc l))
 
+  -- any other row is one of the words
   pub free-inside : (y : ℕ) (row : List ℕ) → (y ≡ 0 → ⊥) → y ≤ h → row ≡ rowOf w words (y - 1) → (x : ℕ) → freeIn w row x ≡ board w h words x y
   unfolding board
   free-inside zero row n l r x = absurd (n refl)
@@ -48,11 +54,12 @@ module _ (w h : ℕ) (words : List ℕ) where
       let e : suc y - 1 ≡ y = omega arith in
       rw (lt-ltb y h l, r, e)
 
--- three places of a row, by what is known of each
+-- three places of a row are told by what holds at each
 pub triple-same : (f g : ℕ → Bool) (x : ℕ) → ((i : ℕ) → f i ≡ g i) → triple f x ≡ triple g x
 unfolding triple
 triple-same f g x e = simp e
 
+-- where all is blocked, so are the three
 pub triple-blocked : (f : ℕ → Bool) (x : ℕ) → ((i : ℕ) → false ≡ f i) → false ∷ false ∷ false ∷ [] ≡ triple f x
 unfolding triple
 triple-blocked f x e = triple-same (λ i. false) f x e

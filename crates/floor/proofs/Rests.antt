@@ -3,7 +3,6 @@ use Prim.Native.Nat.{ℕ, _*_, _<_, _≤_}
 use mathlib.Core.Bool.{true}
 use mathlib.Core.List.{List}
 use mathlib.Core.Path.{_≡_}
-use native.Mathlib.Omega.{arith}
 use Rattle.floor.specs.Words.{rowWords, rowOf, bitFree, IsRow, RestClear, UnusedClear}
 
 -- row y of the floor has no 0 past its cells
@@ -11,6 +10,7 @@ abbrev pub RowUsed : ℕ → List ℕ → ℕ → Type 0
 RowUsed w words y = (x : ℕ) → w ≤ x → x < 64 * rowWords w → bitFree (rowOf w words y) x ≡ true → ⊥
 
 module _ (w h : ℕ) (words : List ℕ) (y : ℕ) (row : List ℕ) (r : IsRow w words y row) where
+  -- a 0 past the cells of a row is an unused bit of the floor
   pub row-clear : y < h → RestClear w row → UnusedClear w h words
   row-clear l c =
       record {
@@ -22,5 +22,6 @@ module _ (w h : ℕ) (words : List ℕ) (y : ℕ) (row : List ℕ) (r : IsRow w 
         clear = rw (r .same) at (c .clear);
       }
 
+  -- a row without one has none
   pub row-used : ¬ (RestClear w row) → RowUsed w words y
   row-used n x p q e = n (record { bit = x; unused = p; bit-in = rw (r .long) q; clear = rw (r .same) e })

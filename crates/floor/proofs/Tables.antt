@@ -25,10 +25,11 @@ pub first-later : (rs ss : List Refusal) (c : ℕ) → Numbered rs → FirstOf r
 first-later [] ss c n p q = q
 first-later (r ∷ rs) ss c n p q = ⊎-elim (λ a. absurd (let l = n .0 in let e = a .1 in omega arith)) (λ b. inr (b .0, first-later rs ss c (n .1) (b .1) q)) p
 
--- a test that found the condition, or found that it fails
+-- a test that found the condition
 pub found : {P : Type 0} → P → Tells P true
 found p = record { yes = λ e. p; no = λ e. absurd (true≢false e) }
 
+-- a test that found that it fails
 pub missing : {P : Type 0} → ¬ P → Tells P false
 missing n = record { yes = λ e. absurd (true≢false (sym e)); no = λ e. n }
 

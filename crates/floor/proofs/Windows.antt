@@ -27,10 +27,12 @@ beside-middle NW = refl
 
 -- judged on its window, a place has the steps and is the turning point that it has and is on the board
 module _ (B : Board) (x y : ℕ) (win : List (List Bool)) (e : win ≡ windowOf B x y) where
+  -- a place is a turning point on its window where it is one on the board
   pub corner-window : corner (cells win) (at 0 0) ≡ corner B (at x y)
   unfolding corner nook windowOf triple
   corner-window = rw e
 
+  -- and a step is legal there where it is on the board
   pub step-window : (d : Dir) → step (cells win) d (at 0 0) ≡ step B d (at x y)
   unfolding step windowOf triple
   step-window N = rw e

@@ -1,12 +1,13 @@
 -- Boards, places, the eight directions, the step rule and turning points (01, "The floor" and "Turning points"; 000, Preliminaries and
 -- Definition 1). A board says of each place whether it is free. Places are padded: cell (x, y) of a floor stands at (suc x, suc y), so
 -- every neighbour of a cell has a place, and a place with a zero is outside.
-use Prim.Native.Nat.{ℕ, suc, pred, _<_}
+use Prim.Native.Nat.{ℕ, suc, pred}
 use mathlib.Core.Bool.{Bool, true, false, not, _&&_, _||_}
-use mathlib.Core.List.{List, [], _∷_}
+use mathlib.Core.List.{[], _∷_}
 use mathlib.Core.Path.{_≡_}
 use lib.ListN.{getD}
 
+-- whether the place of a column and a row is free
 abbrev pub Board : Type 0
 Board = ℕ → ℕ → Bool
 
@@ -15,6 +16,7 @@ pub record Padded (B : Board) : Type 0 where
   pub row : (x : ℕ) → B x 0 ≡ false
   pub column : (y : ℕ) → B 0 y ≡ false
 
+-- a place, by its padded column and row
 pub record Place : Type 0 where
   pub x : ℕ
   pub y : ℕ
@@ -23,9 +25,11 @@ pub record Place : Type 0 where
 abbrev pub at : ℕ → ℕ → Place
 at x y = record { x = suc x; y = suc y }
 
+-- a place is free
 abbrev pub Free : Board → Place → Type 0
 Free B p = B (p .x) (p .y) ≡ true
 
+-- the eight directions
 pub data Dir : Type 0 where
   N E S W NE SE SW NW : Dir
 
@@ -48,12 +52,15 @@ offsets SE = (more, more)
 offsets SW = (less, more)
 offsets NW = (less, less)
 
+-- how a direction moves the column
 abbrev pub dx : Dir → Offset
 dx d = offsets d .0
 
+-- and the row
 abbrev pub dy : Dir → Offset
 dy d = offsets d .1
 
+-- a number moved by an offset, not below 0
 abbrev pub shift : Offset → ℕ → ℕ
 shift less n = pred n
 shift same n = n
@@ -63,12 +70,13 @@ shift more n = suc n
 abbrev pub go : Dir → Place → Place
 go d p = record { x = shift (dx d) (p .x); y = shift (dy d) (p .y) }
 
--- a direction is diagonal when both of its offsets move
+-- an offset that is not 0
 abbrev pub moving : Offset → Bool
 moving less = true
 moving same = false
 moving more = true
 
+-- a direction is diagonal when both of its offsets move
 abbrev pub slanted : Dir → Bool
 slanted d = moving (dx d) && moving (dy d)
 

@@ -6,13 +6,16 @@ use mathlib.Core.List.{List, [], _∷_}
 use mathlib.Core.Bool.{Bool, true, false}
 use mathlib.Core.Logic.{_⊎_}
 
+-- a row of the table: its number, and when it applies
 pub record Refusal : Type 1 where
   pub number : ℕ
   pub applies : Type 0
 
+-- the row with a number and a condition
 abbrev pub refuse : ℕ → Type 0 → Refusal
 refuse n P = record { number = n; applies = P }
 
+-- c is the number of the first row that applies, or 0
 abbrev pub FirstOf : List Refusal → ℕ → Type 0
 FirstOf [] c = c ≡ 0
 FirstOf (r ∷ rs) c = (r .applies × (c ≡ r .number)) ⊎ ((¬ (r .applies)) × FirstOf rs c)

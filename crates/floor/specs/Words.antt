@@ -107,6 +107,7 @@ unfoldable pub sumBelow : ℕ → (ℕ → ℕ) → ℕ
 sumBelow zero f = 0
 sumBelow (suc n) f = sumBelow n f + f n
 
+-- 1 for true, 0 for false
 abbrev pub one : Bool → ℕ
 one true = 1
 one false = 0

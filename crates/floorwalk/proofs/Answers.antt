@@ -2,7 +2,7 @@
 use Prim.Native.Nat.{ℕ, _<_, _≤_}
 use mathlib.Core.List.{List, [], _∷_, _++_}
 use mathlib.Core.Logic.{inl, inr}
-use mathlib.Core.Path.{_≡_, sym}
+use mathlib.Core.Path.{_≡_}
 use native.Mathlib.Decide.{decLt}
 use native.Mathlib.Omega.{arith}
 use lib.ListN.{length}
@@ -33,9 +33,11 @@ module _ (a : Asked) where
       ∷ refuse 12 (NoWalk walkers (board (a .w) (a .h) (a .words)) (placeOf (a .w) (startCell a)) (placeOf (a .w) (goalCell a)))
       ∷ [])
 
+  -- none of them has the number 0
   numbered : Numbered rows
   numbered = (omega arith, (omega arith, (omega arith, (omega arith, (omega arith, (omega arith, (omega arith, (omega arith, tt))))))))
 
+  -- after 0 the route fits the list that was lent
   pub route-holds : (r : Answer) (route work : List ℕ) → QueryOutcome a r route work → r .code ≡ 0 → r .cells ≤ length (a .route)
   route-holds r route work o z = by (decLt (length (a .route)) (r .cells))
     where

@@ -1,5 +1,5 @@
 -- Bytes written into the part of a list from a place on are written into the list. Assumes nothing.
-use Prim.Native.Nat.{ℕ, _+_, _-_, _≤_}
+use Prim.Native.Nat.{ℕ, _+_, _-_}
 use mathlib.Core.List.{List, [], _++_, append-assoc, append-nil}
 use mathlib.Core.Path.{_≡_, sym, ap, ap₂, _∙_}
 use native.Mathlib.Nat.{zero-add}
@@ -19,6 +19,7 @@ module _ (o y : List ℕ) (a k r : ℕ) (bytes : List ℕ) (e : k ≡ length o -
       ap₂ drop (zero-add (length bytes)) (take-all k (drop a o) (omega (arith, length-drop a o)))
       ∙ drop-drop (length bytes) a o
 
+  -- what was put at the beginning of the part was put at its place in the list
   pub put-part : Put o (take a o ++ (y ++ drop k (drop a o))) a (a + r) bytes
   unfolding putAt
   put-part =

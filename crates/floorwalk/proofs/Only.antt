@@ -1,7 +1,7 @@
 -- There is one listing: no two outputs are allowed for one text. The text may be any list of numbers: a number line or a row is read in one
 -- way whatever follows it. Two outcomes may have been lent other contents: only the lengths are the program's. Assumes nothing.
 use Prim.Native.Nat.{ℕ, zero, suc, _+_, _*_, _/_, _%_, _^_, _<_, _≤_}
-use mathlib.Core.Bool.{Bool, true, false, true≢false}
+use mathlib.Core.Bool.{Bool, true≢false}
 use mathlib.Core.List.{List, [], _∷_, _++_}
 use mathlib.Core.Logic.{_⊎_, inl, inr, ⊎-elim}
 use mathlib.Core.Path.{_≡_, refl, sym, ap, ap₂, subst, _∙_}
@@ -229,11 +229,6 @@ printed : (a : Asked) {r : Answer} {route work : List ℕ} (o : QueryOutcome a r
 printed a {r} o z =
     let v = o .route-written z in
     ap (take (r .cells)) (v .there) ∙ take-at (v .cells) (drop (length (v .cells)) (a .route)) (r .cells) (route-long a o z)
-
--- For code 0 the printed cells are the whole route and nothing but the route.
-pub printed-route : (a : Asked) {r : Answer} {route work : List ℕ} → QueryOutcome a r route work → r .code ≡ 0
-    → RouteOf (a .w) (a .h) (a .words) (startCell a) (goalCell a) (take (r .cells) route)
-printed-route a o z = subst (RouteOf (a .w) (a .h) (a .words) (startCell a) (goalCell a)) (sym (printed a o z)) (o .route-written z .is-route)
 
 -- for code 0 a colon and the cells are printed
 whole-part : (cells : List ℕ) → routePart 0 cells ≡ routeCells cells

@@ -61,6 +61,7 @@ module _ (g : Ground) (text : List ℕ) (more : Bool) (from : Spot) (before : Li
     bare e = put-same (ap (λ t. f .bytes ++ t) (f .open-tail e) ∙ append-nil (f .bytes)) (f .put)
 
     module _ (route′ work′ after′ : List ℕ) (a : length route′ ≡ length route) (b : length work′ ≡ length work) (c : length after′ ≡ length after) (left : LineLeft text s) where
+      -- a line that is answered adds its reply
       answered : (r : Spot) → AnsweredAt g text s after after′ r → Filling g text more from before route′ work′ after′ r
       answered r p =
           let l = p .reply in
@@ -85,6 +86,7 @@ module _ (g : Ground) (text : List ℕ) (more : Bool) (from : Spot) (before : Li
             out-size = c ∙ f .out-size;
           })
 
+      -- a line that is refused adds the refusal, and is the last
       refused : (r : Spot) → NoTrip text (s .at) → RefusedAt s after after′ r → Filling g text more from before route′ work′ after′ r
       refused r n p =
           subst (Filling g text more from before route′ work′ after′) (sym (p .is))

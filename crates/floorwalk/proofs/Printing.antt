@@ -1,9 +1,9 @@
 -- An answer's line: what its parts make, and how long it can be. Assumes nothing.
-use Prim.Native.Nat.{ℕ, zero, suc, _+_, _*_, _^_, _<_, _≤_}
+use Prim.Native.Nat.{ℕ, zero, suc, _+_, _^_, _<_, _≤_}
 use mathlib.Core.List.{List, [], _∷_, _++_, append-nil}
 use mathlib.Core.Path.{_≡_, refl, sym, ap, ap₂, _∙_}
 use native.Mathlib.Omega.{arith}
-use lib.ListN.{length, getD, take, length-append}
+use lib.ListN.{length, getD, take}
 use lib.Seq.{getD-take, length-take-le}
 use Rattle.query.specs.declared.Answer.{Answer}
 use Rattle.listing.specs.Answers.{answerNumbers, routeCells}
@@ -39,6 +39,7 @@ module _ (a : Answer) (route : List ℕ) (f : ℕ) (e : f ≡ figureIn a) where
   abbrev pub numbersWith : List ℕ
   numbersWith = answerNumbers (a .code) (a .straight) (a .diagonal) (a .cells) (a .effort) f
 
+  -- they are the numbers of the answer
   same-numbers : numbersWith ≡ numbersOf a
   same-numbers = ap (answerNumbers (a .code) (a .straight) (a .diagonal) (a .cells) (a .effort)) e
 

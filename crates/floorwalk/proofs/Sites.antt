@@ -1,5 +1,5 @@
 -- What a survey leaves in the lists is the plan that is walked on, and its line and every refusal are short. Assumes nothing.
-use Prim.Native.Nat.{ℕ, suc, _+_, _*_, _^_, _<_, _≤_}
+use Prim.Native.Nat.{ℕ, _+_, _*_, _^_, _<_, _≤_}
 use mathlib.Core.List.{List, [], _∷_, _++_}
 use mathlib.Core.Logic.{inl, inr}
 use mathlib.Core.Path.{_≡_, refl, sym, ap, ap₂, subst, _∙_}
@@ -15,18 +15,21 @@ use Rattle.plan.specs.Survey.{lentRows, lastRow, Done, SurveyOutcome}
 use Rattle.plan.specs.declared.Surveyed.{Surveyed}
 use Rattle.listing.specs.Answers.{Put, floorLine, surveyRefused, inputRefused}
 use Rattle.listing.proofs.Puts.{digits-64, floor-length, survey-length, input-length}
-use Rattle.floorwalk.specs.Openings.{MapAt, Largest, BadFloor, bad-floor, cutPlan, groundOf, SiteOpen, OpenedTo, FloorPut, SurveyPut, FloorOpened}
+use Rattle.floorwalk.specs.Openings.{MapAt, Largest, bad-floor, cutPlan, SiteOpen, OpenedTo, FloorPut, FloorOpened}
 use Rattle.floorwalk.specs.declared.opening.Opened.{Opened}
 use Rattle.floorwalk.specs.declared.opening.Opened.the-variants as opening
 use Rattle.floorwalk.specs.declared.opening.Site.{Site}
 
 -- ---- how many bytes
+-- the line of a refused survey
 pub survey-short : (code : ℕ) → code < 2 ^ 64 → length (surveyRefused code) ≤ 36
 survey-short code l = rw (survey-length code) (omega (arith, digits-64 code l))
 
+-- the line of refused input
 pub input-short : (line : ℕ) → line < 2 ^ 64 → length (inputRefused line) ≤ 43
 input-short line l = rw (input-length line) (omega (arith, digits-64 line l))
 
+-- the floor's line
 pub floor-short : (w h free k m : ℕ) → w < 2 ^ 64 → h < 2 ^ 64 → free < 2 ^ 64 → k < 2 ^ 64 → m < 2 ^ 64 → length (floorLine w h free k m) ≤ 129
 floor-short w h free k m a b c d e =
     rw (floor-length w h free k m) (omega (arith, digits-64 w a, digits-64 h b, digits-64 free c, digits-64 k d, digits-64 m e))
@@ -54,6 +57,7 @@ pub record Planned (w h : ℕ) (words : List ℕ) (r : Surveyed) (left : Lists) 
   pub arcs : r .arcs ≤ 32768
   pub free : r .free ≡ freeCells w h words
 
+-- a survey with the code 0 leaves a plan
 pub planned : (w h : ℕ) (words : List ℕ) (lent left : Lists) (r : Surveyed)
     → SurveyOutcome w h words lent r left → r .code ≡ 0 → Largest lent → Largest left → Planned w h words r left
 planned w h words lent left r o z a b = made (o .done z)

@@ -1,7 +1,7 @@
 -- The floor's line and the pieces that are written after it make the whole listing. Assumes nothing.
 use Prim.Native.Nat.{ℕ, _+_}
 use mathlib.Core.Bool.{Bool, true, false}
-use mathlib.Core.List.{List, [], _++_, append-nil, append-assoc}
+use mathlib.Core.List.{List, _++_, append-nil, append-assoc}
 use mathlib.Core.Path.{_≡_, refl, sym, ap, subst, _∙_}
 use Rattle.floorwalk.specs.Replies.{Ground, spotOf}
 use Rattle.floorwalk.specs.Openings.{OpenFloor, groundLine}
@@ -26,6 +26,7 @@ module _ (g : Ground) (text : List ℕ) (more : Bool) where
     ending : Ending text more at line tail
     joined : bytes ≡ replies ++ tail
 
+  -- what is written piece by piece answers the lines to the end
   rest-of : {from : Spot} {bytes : List ℕ} → PiecesWritten from bytes → Rest from bytes
   rest-of (last-piece {r = r} p e) =
       record { at = r .at; line = r .line; replies = p .bytes; tail = p .tail; passed = p .passed; ending = p .ended e; joined = refl }

@@ -60,6 +60,7 @@ pub record Closed (text : List ℕ) (more : Bool) (s : Spot) (before after : Lis
   pub short : length tail ≤ 64
   pub ending : s .at ≤ length text → Ending text more (s .at) (s .line) tail
 
+-- the piece stays open, or what ends the listing was put
 abbrev pub FinishedTo : List ℕ → Bool → Spot → List ℕ → List ℕ → Spot → Type 0
 FinishedTo text more s before after r = Stays text s before after r ⊎ Closed text more s before after r
 

@@ -118,6 +118,7 @@ pub record TurnedPut (text before after : List ℕ) (used : ℕ) : Type 0 where
   pub put : Put before after 0 used bytes
   pub short : used ≤ 256
 
+-- what opening a text comes to
 abbrev pub OpenedTo : List ℕ → List ℕ → Lists → List ℕ → List ℕ → Opened → Type 0
 OpenedTo text words left before after (opened.Floor s) = SiteOpen text words left before after s
 OpenedTo text words left before after (opened.Refused used) = TurnedPut text before after used
@@ -150,6 +151,7 @@ pub record FloorPut (w h next : ℕ) (words : List ℕ) (left : Lists) (before a
   pub put : Put before after 0 (s .used) (floorLine w h (freeCells w h words) (s .corners) (s .arcs))
   pub short : s .used ≤ 256
 
+-- what surveying a floor comes to
 abbrev pub FloorOpened : ℕ → ℕ → ℕ → List ℕ → Lists → Lists → List ℕ → List ℕ → Opened → Type 0
 FloorOpened w h next words lent left before after (opened.Floor s) = FloorPut w h next words left before after s
 FloorOpened w h next words lent left before after (opened.Refused used) = SurveyPut w h words lent left before after used

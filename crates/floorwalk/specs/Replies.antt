@@ -22,6 +22,7 @@ pub record Ground : Type 0 where
   pub words : List ℕ
   pub plan : Lists
 
+-- a surveyed floor, by its parts
 abbrev pub ground : ℕ → ℕ → List ℕ → List ℕ → List ℕ → List ℕ → List ℕ → Ground
 ground w h words clear corners starts neighbours = record { w = w; h = h; words = words; plan = lists clear corners starts neighbours }
 
@@ -119,5 +120,6 @@ pub record AnsweredAt (g : Ground) (text : List ℕ) (spot : Spot) (before after
   pub reply : LineReply g text (spot .at) next bytes
   pub line : PutLine 98432 before after (spot .used) end bytes
 
+-- the line at a spot was answered, or has no trip and was refused
 abbrev pub RepliedTo : Ground → List ℕ → Spot → List ℕ → List ℕ → Spot → Type 0
 RepliedTo g text spot before after r = AnsweredAt g text spot before after r ⊎ (NoTrip text (spot .at) × RefusedAt spot before after r)

@@ -46,11 +46,11 @@ picked-never ax w here n = n .0
 picked-never ax w (later k) n = picked-never ax w k (n .1)
 
 -- the way to a larger number
-toward-more : {m n : ℕ} → m < n → toward m n ≡ more
+pub toward-more : {m n : ℕ} → m < n → toward m n ≡ more
 toward-more {m} {n} h = rw (lt-ltb m n h)
 
 -- the way to a smaller number
-toward-less : {m n : ℕ} → n < m → toward m n ≡ less
+pub toward-less : {m n : ℕ} → n < m → toward m n ≡ less
 toward-less {m} {n} h = let e : ltb m n ≡ false = le-ltb m n (omega arith) in rw (e, lt-ltb n m h)
 
 -- a list that goes one way and moves goes toward its end

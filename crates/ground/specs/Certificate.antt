@@ -15,6 +15,7 @@ pub record Claim : Type 0 where
   pub reached : Place → Bool
   pub far : Place → Len
 
+-- the start claims no length, and every legal step from a claimed place leads to one that claims no more than the step adds
 pub record Certified (K : Kind) (B : Board) (s : Place) (c : Claim) : Type 0 where
   pub start : c .reached s ≡ true
   pub zero : c .far s ≡ 𝟎

@@ -13,6 +13,7 @@ use Rattle.ground.specs.Walk.{end}
 abbrev pub ahead : Dir → ℕ → Place → Place
 ahead c j p = end p (replicate j c)
 
+-- m is the clearance of p in the direction c
 pub record Clearance (B : Board) (c : Dir) (p : Place) (m : ℕ) : Type 0 where
   pub free : (j : ℕ) → j ≤ m → Free B (ahead c j p)
   pub plain : (j : ℕ) → 0 < j → j < m → corner B (ahead c j p) ≡ false

@@ -9,6 +9,7 @@ use Rattle.lengths.specs.Lengths.{gap}
 use Rattle.floor.specs.Board.{Place, Dir, N, E, S, W, NE, SE, SW, NW, Offset, less, same, more}
 use Rattle.ground.specs.Kind.{octile}
 
+-- the offset that leads from m toward n
 abbrev pub toward : ℕ → ℕ → Offset
 toward m n = cond (ltb m n) more (cond (ltb n m) less same)
 
@@ -24,16 +25,18 @@ compass more less = NE
 compass more same = E
 compass more more = SE
 
+-- the direction of the diagonal steps
 abbrev pub diagonal-way : Place → Place → Dir
 diagonal-way s t = compass (toward (s .x) (t .x)) (toward (s .y) (t .y))
 
--- along the axis on which the two places are further apart
+-- the direction of the straight steps, along the axis on which the two places are further apart
 abbrev pub straight-way : Place → Place → Dir
 straight-way s t =
     cond (ltb (gap (s .y) (t .y)) (gap (s .x) (t .x)))
     (compass (toward (s .x) (t .x)) same)
     (compass same (toward (s .y) (t .y)))
 
+-- the direct line
 abbrev pub line : Place → Place → List Dir
 line s t =
     replicate (octile s t .diagonal) (diagonal-way s t) ++ replicate (octile s t .straight) (straight-way s t)

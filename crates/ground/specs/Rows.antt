@@ -14,6 +14,7 @@ use Rattle.ground.specs.Walk.{end, Legal}
 abbrev pub cell : Place → Dir → Dir → ℕ → ℕ → Place
 cell s d c i j = end s (replicate i d ++ replicate j c)
 
+-- the ray is legal, all cells of the field are free, and none but its two ends is a turning point
 pub record Rows (B : Board) (s : Place) (d c : Dir) (n k : ℕ) : Type 0 where
   pub ray : Legal walkers B s (replicate n d)
   pub free : (i j : ℕ) → i ≤ n → j ≤ k → Free B (cell s d c i j)

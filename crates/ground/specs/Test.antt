@@ -15,6 +15,7 @@ abbrev pub upto : ℕ → (ℕ → Bool) → Bool
 upto zero f = f 0
 upto (suc n) f = upto n f && f (suc n)
 
+-- the test of a legal walk
 abbrev pub legal : Board → Place → List Dir → Bool
 legal B p [] = B (p .x) (p .y)
 legal B p (d ∷ ds) = B (p .x) (p .y) && (step B d p && legal B (go d p) ds)
@@ -23,8 +24,10 @@ legal B p (d ∷ ds) = B (p .x) (p .y) && (step B d p && legal B (go d p) ds)
 abbrev pub fine : Board → Place → ℕ → ℕ → Bool
 fine B p steps all = B (p .x) (p .y) && not (ltb 0 steps && (ltb steps all && corner B p))
 
+-- the test of the rows of a field
 abbrev pub rows : Board → Place → Dir → Dir → ℕ → ℕ → Bool
 rows B s d c n k = legal B s (replicate n d) && upto n (λ i. upto k (λ j. fine B (cell s d c i j) (i + j) (n + k)))
 
+-- the test whether two places are joined directly
 unfoldable pub joined : Board → Place → Place → Bool
 joined B s t = rows B s (diagonal-way s t) (straight-way s t) (octile s t .diagonal) (octile s t .straight)

@@ -6,22 +6,25 @@ use Rattle.lengths.specs.Lengths.{Len, pair, 𝟎, _⊕_, _≼_}
 use Rattle.floor.specs.Board.{Board, Place, Dir, go, Free, slanted, step, corner}
 use Rattle.ground.specs.Kind.{Kind}
 
--- A walk is a list of directions from a place: where it ends, and that it is legal all along.
+-- where a list of directions from a place ends
 abbrev pub end : Place → List Dir → Place
 end p [] = p
 end p (d ∷ ds) = end (go d p) ds
 
+-- it is legal all along
 abbrev pub Legal : Kind → Board → Place → List Dir → Type 0
 Legal K B p [] = Free B p
 Legal K B p (d ∷ ds) = Free B p × ((K .permits d && step B d p) ≡ true) × Legal K B (go d p) ds
 
+-- a walk from s to t
 abbrev pub Walk : Kind → Board → Place → Place → List Dir → Type 0
 Walk K B s t ds = Legal K B s ds × (end s ds ≡ t)
 
--- its length: how many straight and how many diagonal steps
+-- the length of one step
 abbrev pub size : Dir → Len
 size d = cond (slanted d) (pair 0 1) (pair 1 0)
 
+-- the length of a walk: how many straight and how many diagonal steps
 abbrev pub len : List Dir → Len
 len [] = 𝟎
 len (d ∷ ds) = size d ⊕ len ds

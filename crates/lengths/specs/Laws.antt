@@ -10,7 +10,7 @@
 use Prim.Native.Nat.{ℕ, zero, suc, _+_, _*_, _-_, _<_, _≤_}
 use mathlib.Core.Path.{_≡_, refl, ap, ap₂}
 use mathlib.Core.Logic.{_⊎_, _↔_, inl, inr, ⊎-elim, ⊎-map}
-use mathlib.Core.Bool.{true, false}
+use mathlib.Core.Bool.{true}
 use native.Mathlib.Decide.{decLe}
 use native.Mathlib.Nat.{
   add-comm,
@@ -39,9 +39,11 @@ use lib.IntN.{ℤ, pos, negsuc}
 use Rattle.lengths.specs.Lengths.{Len, pair, 𝟎, _⊕_, over, _≺_, _≼_, shorter, compareOf}
 use Rattle.lengths.specs.Fraction.{Near, Fraction, fraction, square-lt, root-zero, below, beyond, irrational}
 
+-- of two numbers the first is at most the second, or the second is less
 pub le-or-lt : (a b : ℕ) → (a ≤ b) ⊎ (b < a)
 le-or-lt a b = elim (decLe a b) [ yes h ↦ inl h | no h ↦ inr (lt-of-not-le h) ]
 
+-- two lengths with the same counts are the same
 pub same-pair : {x y : Len} → x .straight ≡ y .straight → x .diagonal ≡ y .diagonal → x ≡ y
 same-pair p q = λ i. record { straight = p i; diagonal = q i }
 
@@ -49,14 +51,17 @@ same-pair p q = λ i. record { straight = p i; diagonal = q i }
 one-side : (a c : ℕ) → (a - c ≡ 0) ⊎ (c - a ≡ 0)
 one-side a c = ⊎-elim (λ h. inl (omega arith)) (λ h. inr (omega arith)) (le-or-lt a c)
 
+-- a product with 0 is 0
 times-zero : (k : ℕ) {a : ℕ} → a ≡ 0 → k * a ≡ 0
 times-zero k e = omega (arith, ap (λ (t : ℕ). k * t) e)
 
+-- where p² + 2q² is 0, both are
 both-zero : (p q : ℕ) → p * p + 2 * (q * q) ≡ 0 → (p ≡ 0) × (q ≡ 0)
 both-zero p q e = (root-zero p (omega arith), root-zero q (omega arith))
 
 -- ---- what two lengths have over one another: p straight and q diagonal steps the one, p′ and q′ the other. Of each kind one is 0
 module _ (p p′ q q′ : ℕ) where
+  -- equal squares: the same counts are left on both sides
   same-left : (p ≡ 0) ⊎ (p′ ≡ 0) → (q ≡ 0) ⊎ (q′ ≡ 0) → p * p + 2 * (q * q) ≡ p′ * p′ + 2 * (q′ * q′) → (p ≡ p′) × (q ≡ q′)
   same-left (inl e) (inl d) h = let z = both-zero p′ q′ (omega (arith, times-zero p e, times-zero q d)) in omega arith
   same-left (inl e) (inr d) h = let z = irrational p′ q (omega (arith, times-zero p e, times-zero q′ d)) in omega arith
@@ -64,6 +69,7 @@ module _ (p p′ q q′ : ℕ) where
   same-left (inr e) (inr d) h = let z = both-zero p q (omega (arith, times-zero p′ e, times-zero q′ d)) in omega arith
 
   module _ {m n : ℕ} (f : Near m n) where
+    -- squares above 0: what is left is worth something
     some-left : q < n → 0 < p′ * p′ + 2 * (q′ * q′) → 0 < n * p′ + m * q′
     some-left small h =
         ⊎-elim
@@ -71,6 +77,7 @@ module _ (p p′ q q′ : ℕ) where
         (λ (l : 0 < p′). omega (arith, mul-pos {m = n} {n = p′} (omega arith) l))
         (eq-zero-or-pos p′)
 
+    -- smaller squares: what is left is worth less
     less-left : (p ≡ 0) ⊎ (p′ ≡ 0) → (q ≡ 0) ⊎ (q′ ≡ 0) → p * p + 2 * (q * q) < p′ * p′ + 2 * (q′ * q′) → q < n → n * p + m * q < n * p′ + m * q′
     less-left (inl e) (inl d) h small =
         omega (arith, times-zero n e, times-zero m d, some-left small (omega (arith, times-zero p e, times-zero q d)))
@@ -82,9 +89,11 @@ module _ (p p′ q q′ : ℕ) where
     less-left (inr e) (inr d) h small = omega (arith, times-zero p′ e, times-zero q′ d)
 
 -- ---- a total order
+-- a length is at most itself
 pub ≼-refl : (x : Len) → x ≼ x
 ≼-refl x = record { most = le-refl (over x x) }
 
+-- two lengths that are at most each other are the same pair
 pub ≼-antisym : {x y : Len} → x ≼ y → y ≼ x → x ≡ y
 unfolding over
 ≼-antisym {x} {y} h k = same-pair (same (x .straight) (y .straight) (left .0)) (same (x .diagonal) (y .diagonal) (left .1))
@@ -97,24 +106,31 @@ unfolding over
     same : (a c : ℕ) → a - c ≡ c - a → a ≡ c
     same a c e = omega arith
 
+-- no length is less than itself
 pub ≺-irrefl : (x : Len) → ¬ (x ≺ x)
 ≺-irrefl x h = lt-irrefl (over x x) (h .less)
 
+-- less is at most
 pub ≺→≼ : {x y : Len} → x ≺ y → x ≼ y
 ≺→≼ h = record { most = le-of-lt (h .less) }
 
+-- where x is less than y, y is not at most x
 pub ≺→not-≽ : {x y : Len} → x ≺ y → ¬ (y ≼ x)
 ≺→not-≽ h k = not-le-of-lt (h .less) (k .most)
 
+-- of two lengths the first is at most the second, or the second is less
 pub ≼-or-≻ : (x y : Len) → (x ≼ y) ⊎ (y ≺ x)
 ≼-or-≻ x y = ⊎-map (λ h. record { most = h }) (λ h. record { less = h }) (le-or-lt (over x y) (over y x))
 
+-- where y is not at most x, x is less than y
 pub not-≽→≺ : {x y : Len} → ¬ (y ≼ x) → x ≺ y
 not-≽→≺ {x} {y} n = ⊎-elim (λ h. absurd (n h)) (λ h. h) (≼-or-≻ y x)
 
+-- at most is the same or less
 pub ≼-split : {x y : Len} → x ≼ y → (x ≡ y) ⊎ (x ≺ y)
 ≼-split {x} {y} h = ⊎-map (λ k. ≼-antisym h k) (λ k. k) (≼-or-≻ y x)
 
+-- less, the same or more
 pub trichotomy : (x y : Len) → (x ≺ y) ⊎ (x ≡ y) ⊎ (y ≺ x)
 trichotomy x y = ⊎-elim (λ h. ⊎-elim (λ e. inr (inl e)) inl (≼-split h)) (λ h. inr (inr h)) (≼-or-≻ x y)
 
@@ -123,6 +139,7 @@ abbrev pub worth : ℕ → ℕ → Len → ℕ
 worth m n x = n * x .straight + m * x .diagonal
 
 module _ {m n : ℕ} (f : Near m n) {x y : Len} where
+  -- a smaller length is worth less
   pub worth-≺ : x .diagonal < n → x ≺ y → worth m n x < worth m n y
   unfolding over
   worth-≺ small h =
@@ -136,19 +153,24 @@ module _ {m n : ℕ} (f : Near m n) {x y : Len} where
       across : (a c : ℕ) → a + (c - a) ≡ c + (a - c)
       across a c = omega arith
 
+  -- a length that is at most another is worth at most as much
   pub worth-≼ : x .diagonal < n → x ≼ y → worth m n x ≤ worth m n y
   worth-≼ small h = ⊎-elim (λ e. le-of-eq (ap (worth m n) e)) (λ l. le-of-lt (worth-≺ small l)) (≼-split h)
 
 module _ {m n : ℕ} (f : Near m n) {x y : Len} (small : y .diagonal < n) where
+  -- what is worth at most as much is at most the other length
   pub ≼-of-worth : worth m n x ≤ worth m n y → x ≼ y
   ≼-of-worth h = ⊎-elim (λ k. k) (λ l. absurd (not-le-of-lt (worth-≺ f small l) h)) (≼-or-≻ x y)
 
+  -- what is worth less is less
   pub ≺-of-worth : worth m n x < worth m n y → x ≺ y
   ≺-of-worth h = not-≽→≺ (λ k. not-le-of-lt h (worth-≼ f small k))
 
+-- so less is worth less, both ways
 pub ≺-worth-iff : {m n : ℕ} → Near m n → (x y : Len) → x .diagonal < n → y .diagonal < n → x ≺ y ↔ worth m n x < worth m n y
 ≺-worth-iff f x y h k = (worth-≺ f h, ≺-of-worth f k)
 
+-- and at most is worth at most
 pub ≼-worth-iff : {m n : ℕ} → Near m n → (x y : Len) → x .diagonal < n → y .diagonal < n → x ≼ y ↔ worth m n x ≤ worth m n y
 ≼-worth-iff f x y h k = (worth-≼ f h, ≼-of-worth f k)
 
@@ -156,21 +178,26 @@ pub ≼-worth-iff : {m n : ℕ} → Near m n → (x y : Len) → x .diagonal < n
 pub ≼-by-worth : (x y : Len) → ((m n : ℕ) → Near m n → worth m n x ≤ worth m n y) → x ≼ y
 ≼-by-worth x y h = let f = fraction (y .diagonal) in ≼-of-worth (f .near) (f .large) (h (f .m) (f .n) (f .near))
 
+-- and so for less
 pub ≺-by-worth : (x y : Len) → ((m n : ℕ) → Near m n → worth m n x < worth m n y) → x ≺ y
 ≺-by-worth x y h = let f = fraction (y .diagonal) in ≺-of-worth (f .near) (f .large) (h (f .m) (f .n) (f .near))
 
+-- at most, and at most again
 pub ≼-trans : {x y z : Len} → x ≼ y → y ≼ z → x ≼ z
 ≼-trans {x} {y} {z} h k =
     let f = fraction (x .diagonal + y .diagonal + z .diagonal) in
     let l = f .large in
     ≼-of-worth (f .near) (omega arith) (le-trans (worth-≼ (f .near) (omega arith) h) (worth-≼ (f .near) (omega arith) k))
 
+-- less, and at most
 pub ≺-≼-trans : {x y z : Len} → x ≺ y → y ≼ z → x ≺ z
 ≺-≼-trans h k = not-≽→≺ (λ l. ≺→not-≽ h (≼-trans k l))
 
+-- at most, and less
 pub ≼-≺-trans : {x y z : Len} → x ≼ y → y ≺ z → x ≺ z
 ≼-≺-trans h k = not-≽→≺ (λ l. ≺→not-≽ k (≼-trans l h))
 
+-- less, and less again
 pub ≺-trans : {x y z : Len} → x ≺ y → y ≺ z → x ≺ z
 ≺-trans h k = ≺-≼-trans h (≺→≼ k)
 
@@ -178,25 +205,32 @@ pub ≺-trans : {x y z : Len} → x ≺ y → y ≺ z → x ≺ z
 abbrev pub weight : Len → ℕ
 weight x = worth 114243 80782 x
 
-exact : Near 114243 80782
+-- 114,243 / 80,782 is a fraction just above √2
+pub exact : Near 114243 80782
 exact = record { above = refl; one = omega arith; two = omega arith }
 
+-- a short length is less than another exactly where it weighs less
 pub ≺-weight : (x y : Len) → x .diagonal < 80782 → y .diagonal < 80782 → x ≺ y ↔ weight x < weight y
 ≺-weight = ≺-worth-iff exact
 
+-- and at most another exactly where it weighs at most as much
 pub ≼-weight : (x y : Len) → x .diagonal < 80782 → y .diagonal < 80782 → x ≼ y ↔ weight x ≤ weight y
 ≼-weight = ≼-worth-iff exact
 
 -- ---- sums
+-- sums in either order are the same
 pub ⊕-comm : (x y : Len) → x ⊕ y ≡ y ⊕ x
 ⊕-comm x y = same-pair (add-comm (x .straight) (y .straight)) (add-comm (x .diagonal) (y .diagonal))
 
+-- and so in either grouping
 pub ⊕-assoc : (x y z : Len) → x ⊕ y ⊕ z ≡ x ⊕ (y ⊕ z)
 ⊕-assoc x y z = same-pair (add-assoc (x .straight) (y .straight) (z .straight)) (add-assoc (x .diagonal) (y .diagonal) (z .diagonal))
 
+-- no step adds nothing
 pub ⊕-zero : (x : Len) → x ⊕ 𝟎 ≡ x
 ⊕-zero x = same-pair (add-zero (x .straight)) (add-zero (x .diagonal))
 
+-- what is added to both can be taken from both
 pub ⊕-cancel : (x y z : Len) → x ⊕ z ≡ y ⊕ z → x ≡ y
 ⊕-cancel x y z e = same-pair (add-right-cancel (z .straight) (ap (λ (t : Len). t .straight) e)) (add-right-cancel (z .diagonal) (ap (λ (t : Len). t .diagonal) e))
 
@@ -208,35 +242,45 @@ over-⊕ x y z = ap₂ (λ (s t : ℕ). s * s + 2 * (t * t)) (cancel (x .straigh
     cancel : (a c e : ℕ) → (a + e) - (c + e) ≡ a - c
     cancel a c e = omega arith
 
+-- what is added to both leaves less as it is
 pub ⊕-≺ : (x y z : Len) → x ⊕ z ≺ y ⊕ z ↔ x ≺ y
 ⊕-≺ x y z = omega (arith, over-⊕ x y z, over-⊕ y x z)
 
+-- and at most
 pub ⊕-≼ : (x y z : Len) → x ⊕ z ≼ y ⊕ z ↔ x ≼ y
 ⊕-≼ x y z = omega (arith, over-⊕ x y z, over-⊕ y x z)
 
+-- at most and at most make at most
 pub ⊕-mono : {x y u v : Len} → x ≼ y → u ≼ v → x ⊕ u ≼ y ⊕ v
 ⊕-mono {x} {y} {u} {v} h k = ≼-trans (⊕-≼ x y u .1 h) (rw (⊕-comm y u, ⊕-comm y v) (⊕-≼ u v y .1 k))
 
+-- less and at most make less
 pub ⊕-mono-≺ : {x y u v : Len} → x ≺ y → u ≼ v → x ⊕ u ≺ y ⊕ v
 ⊕-mono-≺ {x} {y} {u} {v} h k = ≺-≼-trans (⊕-≺ x y u .1 h) (⊕-mono (≼-refl y) k)
 
+-- no length is less than that of no step
 pub 𝟎-least : (x : Len) → 𝟎 ≼ x
 𝟎-least x = ≼-by-worth 𝟎 x (λ m n f. omega arith)
 
+-- a straight step more is more
 pub straight-step : (x : Len) → x ≺ x ⊕ pair 1 0
 straight-step x = ≺-by-worth x (x ⊕ pair 1 0) (λ m n f. omega arith)
 
+-- and so is a diagonal one
 pub diagonal-step : (x : Len) → x ≺ x ⊕ pair 0 1
 diagonal-step x = ≺-by-worth x (x ⊕ pair 0 1) (λ m n f. omega arith)
 
 -- ---- more steps of one kind, and no fewer of the other
 module _ (x y : Len) where
+  -- no more of either kind is at most
   pub ≼-both : x .straight ≤ y .straight → x .diagonal ≤ y .diagonal → x ≼ y
   ≼-both h k = ≼-by-worth x y (λ m n f. omega (arith, mul-le-mul-left n h, mul-le-mul-left m k))
 
+  -- fewer straight steps and no more diagonal ones is less
   pub ≺-straight : x .straight < y .straight → x .diagonal ≤ y .diagonal → x ≺ y
   ≺-straight h k = ≺-by-worth x y (λ m n f. omega (arith, mul-le-mul-left n h, mul-le-mul-left m k))
 
+  -- fewer diagonal steps and no more straight ones is less
   pub ≺-diagonal : x .straight ≤ y .straight → x .diagonal < y .diagonal → x ≺ y
   ≺-diagonal h k = ≺-by-worth x y (λ m n f. omega (arith, mul-le-mul-left n h, mul-le-mul-left m k))
 
@@ -266,20 +310,24 @@ pub ≺-induction {ℓ} : (P : Len → Type ℓ) → ((y : Len) → ((x : Len) �
         go k w h′ (omega (arith, worth-≺ (f .near) (omega (arith, f .large)) s)))
 
 -- ---- the signs first, then p² against 2q²
+-- where x has no more diagonal steps, its straight ones alone are over
 pub over-straight : (x y : Len) → x .diagonal ≤ y .diagonal → over x y ≡ (x .straight - y .straight) * (x .straight - y .straight)
 unfolding over
 over-straight x y h = omega (arith, times-zero (x .diagonal - y .diagonal) (sub-eq-zero-of-le h))
 
+-- where x has no more straight steps, its diagonal ones alone are over
 pub over-diagonal : (x y : Len) → x .straight ≤ y .straight → over x y ≡ 2 * ((x .diagonal - y .diagonal) * (x .diagonal - y .diagonal))
 unfolding over
 over-diagonal x y h = omega (arith, times-zero (x .straight - y .straight) (sub-eq-zero-of-le h))
 
 -- x has p straight steps over y, and y has q diagonal ones over x, at least one: p² against 2q² decides, and they are never equal
 module _ (x y : Len) (h : y .straight ≤ x .straight) (k : x .diagonal < y .diagonal) where
+  -- where p² is less than 2q², x is less
   pub squares-less :
       (x .straight - y .straight) * (x .straight - y .straight) < 2 * ((y .diagonal - x .diagonal) * (y .diagonal - x .diagonal)) → x ≺ y
   squares-less l = record { less = omega (arith, over-straight x y (le-of-lt k), over-diagonal y x h) }
 
+  -- where it is not, x is more
   pub squares-more :
       2 * ((y .diagonal - x .diagonal) * (y .diagonal - x .diagonal)) ≤ (x .straight - y .straight) * (x .straight - y .straight) → y ≺ x
   squares-more l =
@@ -287,26 +335,27 @@ module _ (x y : Len) (h : y .straight ≤ x .straight) (k : x .diagonal < y .dia
       ⊎-elim (λ (e : y ≡ x). absurd (let z = ap (λ (t : Len). t .diagonal) e in omega arith)) (λ s. s) (≼-split most)
 
 -- ---- what the tests say
+-- where the test says so, x is less than y
 pub shorter-≺ : (x y : Len) → shorter x y ≡ true → x ≺ y
 unfolding shorter
 shorter-≺ x y e = record { less = ltb-true (over x y) (over y x) e }
 
+-- where x is less than y, the test says so
 pub ≺-shorter : {x y : Len} → x ≺ y → shorter x y ≡ true
 unfolding shorter
 ≺-shorter {x} {y} h = lt-ltb (over x y) (over y x) (h .less)
 
-pub ≼-not-shorter : {x y : Len} → x ≼ y → shorter y x ≡ false
-unfolding shorter
-≼-not-shorter {x} {y} h = le-ltb (over y x) (over x y) (h .most)
-
+-- -1 is for less
 pub compare-less : {x y : Len} → x ≺ y → compareOf x y ≡ negsuc 0
 unfolding compareOf
 compare-less {x} {y} h = rw (lt-ltb (over x y) (over y x) (h .less))
 
+-- 0 for the same
 pub compare-same : {x y : Len} → x ≡ y → compareOf x y ≡ pos 0
 unfolding compareOf
 compare-same {x} {y} e = rw (← e, le-ltb (over x x) (over x x) (le-refl (over x x)))
 
+-- 1 for more
 pub compare-more : {x y : Len} → y ≺ x → compareOf x y ≡ pos 1
 unfolding compareOf
 compare-more {x} {y} h = rw (le-ltb (over x y) (over y x) (le-of-lt (h .less)), lt-ltb (over y x) (over x y) (h .less))
@@ -317,6 +366,7 @@ pub data Decided (x y : Len) : ℤ → Type 0 where
   same : x ≡ y → Decided x y (pos 0)
   more : y ≺ x → Decided x y (pos 1)
 
+-- the comparing call decides
 pub decided : (x y : Len) → Decided x y (compareOf x y)
 decided x y =
     ⊎-elim
@@ -324,15 +374,12 @@ decided x y =
     (⊎-elim (λ (e : x ≡ y). rw (compare-same e) (same e)) (λ (h : y ≺ x). rw (compare-more h) (more h)))
     (trichotomy x y)
 
--- a straight step is less than a diagonal one, that less than two straight ones, and these less than two diagonal ones
+-- a straight step is less than a diagonal one
 pub straight-≺-diagonal : pair 1 0 ≺ pair 0 1
 unfolding shorter over
 straight-≺-diagonal = shorter-≺ (pair 1 0) (pair 0 1) refl
 
+-- a diagonal step is less than two straight ones
 pub diagonal-≺-two : pair 0 1 ≺ pair 2 0
 unfolding shorter over
 diagonal-≺-two = shorter-≺ (pair 0 1) (pair 2 0) refl
-
-pub two-≺-diagonals : pair 2 0 ≺ pair 0 2
-unfolding shorter over
-two-≺-diagonals = shorter-≺ (pair 2 0) (pair 0 2) refl

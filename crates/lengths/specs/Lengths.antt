@@ -13,6 +13,7 @@ pub record Len : Type 0 where
   pub straight : ℕ
   pub diagonal : ℕ
 
+-- the length of a straight and b diagonal steps
 abbrev pub pair : ℕ → ℕ → Len
 pair a b = record { straight = a; diagonal = b }
 

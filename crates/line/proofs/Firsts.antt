@@ -11,6 +11,7 @@ use lib.ListN.{length, replicate, length-append, length-replicate}
 use borrow.Author.Tests.{lt-ltb, le-ltb}
 use Rattle.lengths.specs.Lengths.{Len, gap, octileOf}
 use Rattle.lengths.specs.Laws.{le-or-lt}
+use Rattle.lengths.specs.Octile.{gap-suc}
 use Rattle.floor.specs.Board.{Place, at, Dir, Offset, same, shift, go, moving}
 use Rattle.ground.specs.Kind.{octile}
 use Rattle.ground.specs.Line.{toward, compass, diagonal-way, line}
@@ -104,10 +105,7 @@ steps-octile s t = lineOf-length (gap (s .x) (t .x)) (gap (s .y) (t .y)) (toward
 
 -- the octile length of two cells, by their gaps as the code takes them
 pub octile-cells : (x y u v a b : ℕ) → a ≡ gap x u → b ≡ gap y v → octileOf a b ≡ octile (at x y) (at u v)
-octile-cells x y u v a b p q = ap₂ octileOf (p ∙ gap-places x u) (q ∙ gap-places y v)
-  where
-    gap-places : (m n : ℕ) → gap m n ≡ gap (suc m) (suc n)
-    gap-places m n = omega arith
+octile-cells x y u v a b p q = ap₂ octileOf (p ∙ gap-suc x u) (q ∙ gap-suc y v)
 
 module _ (x y u v a b : ℕ) (p : a ≡ gap x u) (q : b ≡ gap y v) where
   -- the steps of two cells

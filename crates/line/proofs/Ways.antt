@@ -5,20 +5,13 @@ use mathlib.Core.Logic.{_⊎_, inl, inr}
 use mathlib.Core.Path.{_≡_, refl}
 use native.Mathlib.Omega.{arith}
 use lib.Dec.{ltb}
-use borrow.Author.Tests.{ltb-true, ltb-false, lt-ltb, le-ltb}
+use borrow.Author.Tests.{ltb-true, ltb-false, le-ltb}
 use Rattle.lengths.specs.Lengths.{gap}
 use Rattle.floor.specs.Board.{Offset, less, same, more, shift, moving}
 use Rattle.ground.specs.Line.{toward}
+use Rattle.ground.proofs.Lines.{toward-more, toward-less}
 use Rattle.ground.proofs.Logic.{true-or-false}
 use Rattle.line.specs.Cells.{Nearer}
-
--- the way to a larger number
-pub toward-more : {m n : ℕ} → m < n → toward m n ≡ more
-toward-more {m} {n} h = rw (lt-ltb m n h)
-
--- the way to a smaller number
-pub toward-less : {m n : ℕ} → n < m → toward m n ≡ less
-toward-less {m} {n} h = let e : ltb m n ≡ false = le-ltb m n (omega arith) in rw (e, lt-ltb n m h)
 
 -- the way to the same number
 pub toward-same : {m n : ℕ} → m ≡ n → toward m n ≡ same

@@ -1,5 +1,5 @@
--- What is read of a map is a floor: its words are as many as its rows need, its unused bits are 1, and a cell of its board is free exactly
--- where its letter is. Assumes nothing.
+-- What is read of a map is a floor: a cell of its board is free exactly where its letter is. And what its rows take: bytes of the text, and
+-- words. Assumes nothing.
 use Prim.Native.Nat.{ℕ, zero, suc, _+_, _*_, _/_, _%_, _<_, _≤_}
 use mathlib.Core.List.{List}
 use mathlib.Core.Path.{_≡_, sym, ap, _∙_}

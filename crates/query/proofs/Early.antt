@@ -1,17 +1,15 @@
 -- Which of the refusals 1 to 11 a query gives, from its tests. Assumes nothing.
 use Prim.Native.Nat.{ℕ, _+_, _*_, _<_, _≤_}
-use mathlib.Core.Bool.{Bool, true}
 use mathlib.Core.List.{List, [], _∷_, _++_}
 use mathlib.Core.Logic.{_⊎_, inl, inr, ⊎-elim}
-use mathlib.Core.Path.{_≡_, refl}
-use native.Mathlib.Decide.{decLe}
+use mathlib.Core.Path.{refl}
 use native.Mathlib.Omega.{arith}
 use lib.ListN.{length}
 use Rattle.floor.specs.Board.{at, Free}
 use Rattle.floor.specs.Refusals.{Refusal, FirstOf, Numbered, refuse}
 use Rattle.floor.specs.Words.{Floor, floorRows, board}
 use Rattle.floor.proofs.Accepted.{accepted}
-use Rattle.floor.proofs.Tables.{first-here, first-later, not-so}
+use Rattle.floor.proofs.Tables.{first-here, first-later}
 use Rattle.ground.proofs.Logic.{true-or-false}
 use Rattle.plan.specs.Plan.{Lists, Fits}
 use Rattle.query.specs.Query.{Asked, Shut, queryRows}

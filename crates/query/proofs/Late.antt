@@ -1,27 +1,21 @@
 -- What a query comes to that none of the refusals 1 to 11 stops: by the direct line, or by the search. Assumes nothing.
-use Prim.Native.Nat.{ℕ, _+_, _*_, _<_, _≤_}
-use mathlib.Core.List.{List, _∷_}
+use Prim.Native.Nat.{ℕ, _<_, _≤_}
+use mathlib.Core.List.{List}
 use mathlib.Core.Logic.{_⊎_, inl, inr, ⊎-elim}
-use mathlib.Core.Path.{_≡_, refl, sym, _∙_, ap, subst}
+use mathlib.Core.Path.{_≡_, refl, ap}
 use native.Mathlib.Decide.{decLe}
 use native.Mathlib.Omega.{arith}
 use lib.ListN.{length, replicate}
 use Rattle.lengths.specs.Lengths.{Len}
-use Rattle.floor.specs.Board.{Place, at}
-use Rattle.floor.specs.Refusals.{FirstOf}
-use Rattle.floor.specs.Words.{board, numberOf, placeOf}
+use Rattle.floor.specs.Words.{board, placeOf}
 use Rattle.ground.specs.Kind.{walkers, octile}
-use Rattle.ground.specs.Walk.{Walk, NoWalk}
-use Rattle.ground.specs.Line.{line}
+use Rattle.ground.specs.Walk.{NoWalk}
 use Rattle.ground.proofs.Least.{line-shortest}
-use Rattle.ground.proofs.LineEnds.{line-end}
 use Rattle.ground.proofs.Walks.{shortest-unique}
 use Rattle.marks.specs.Lists.{written}
-use Rattle.effort.specs.Effort.{Far}
-use Rattle.line.specs.Cells.{after}
 use Rattle.chain.specs.Route.{LineClear, RouteOf, cellsOf}
-use Rattle.query.specs.Query.{Asked, startCell, goalCell, workSize, Distance, WalkFound, Billed, RouteWritten}
-use Rattle.query.specs.Steps.{lateRows, Unrefused, LateOutcome}
+use Rattle.query.specs.Query.{Asked, startCell, goalCell, workSize, Distance, WalkFound, Billed}
+use Rattle.query.specs.Steps.{LateOutcome}
 use Rattle.query.specs.Answers.{Measured, RouteLeft, LineAnswer, SearchFound, SearchLost}
 use Rattle.query.specs.declared.Answer.{Answer}
 

@@ -1,6 +1,5 @@
 -- `azebimoru::azebimoru_matches` meets its contract: a floor that is refused has no plan of its own. Assumes nothing.
-use mathlib.Core.Path.{_≡_, refl, subst}
-use mathlib.Core.Logic.{inr}
+use mathlib.Core.Path.{subst}
 use borrow.Author.Needs.{needs}
 use denote.Ref.{now}
 use Rattle.floor.specs.Refusals.{FirstOf}

@@ -4,7 +4,6 @@ use mathlib.Core.Path.{sym, subst, _∙_}
 use native.Mathlib.Omega.{arith}
 use lib.ListN.{length}
 use lib.Seq.{length-take-le}
-use denote.Ref.{now}
 use borrow.Author.Needs.{needs}
 use Rattle.plan.specs.Survey.{lists}
 use Rattle.floorwalk.specs.Openings.{Lent, OpenedTo}

@@ -1,5 +1,5 @@
 -- `lengths::compare` meets its contract: the signs of the differences decide, or the squares do. Assumes nothing.
-use Prim.Native.Nat.{_*_, _<_, _≤_, _-_}
+use Prim.Native.Nat.{_-_}
 use borrow.Author.Needs.{needs}
 use borrow.Author.Tests.{ltb-true, ltb-false}
 use mathlib.Core.Path.{sym, _∙_}

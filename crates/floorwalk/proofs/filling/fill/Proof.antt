@@ -1,7 +1,6 @@
 -- `floorwalk::filling::fill` meets its contract. The loop's invariant: lines from the spot on have been answered or refused. The measure
 -- is what is left to do of the text. Assumes nothing.
 use native.Mathlib.Omega.{arith}
-use lib.ListN.{length}
 use denote.Ref.{now}
 use borrow.Author.Needs.{needs}
 use Rattle.floorwalk.specs.Replies.{ground}

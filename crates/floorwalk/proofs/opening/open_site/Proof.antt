@@ -1,8 +1,6 @@
 -- `floorwalk::opening::open_site` meets its contract: the sizes do not fit or are refused, or the map decides. Assumes nothing.
-use Prim.Native.Nat.{_≤_}
 use mathlib.Core.Path.{subst}
 use native.Mathlib.Omega.{arith}
-use lib.ListN.{length}
 use denote.Ref.{now}
 use borrow.Author.Needs.{needs}
 use Rattle.listing.specs.Answers.{surveyRefused, inputRefused}

@@ -1,7 +1,7 @@
 -- `floorwalk::replying::put_reply` meets its contract: the numbers, the cells of a route and the newline stand one after the other.
 -- Assumes nothing.
 use Prim.Native.Nat.{_≤_}
-use mathlib.Core.Path.{_≡_, sym, subst}
+use mathlib.Core.Path.{sym, subst}
 use native.Mathlib.Omega.{arith}
 use lib.ListN.{length, take, length-append}
 use lib.Seq.{length-take-le}

@@ -1,11 +1,10 @@
 -- `query::answering::search_answer` meets its contract: the work space is cleared and prepared, and the search made in it. Assumes nothing.
 use mathlib.Core.Logic.{inr}
 use mathlib.Core.Path.{refl, _∙_, ap, subst}
-use Prim.Native.Nat.{ℕ, _+_, _*_, _<_, _≤_}
-use mathlib.Core.List.{List}
+use Prim.Native.Nat.{ℕ, _<_, _≤_}
 use native.Mathlib.Omega.{arith}
 use borrow.Author.Needs.{needs}
-use lib.ListN.{length, drop}
+use lib.ListN.{length}
 use Rattle.query.proofs.Wiping.{zeroed-length}
 use Rattle.query.proofs.Searching.{cleared-empty, still-searchable, search-ready, search-bounded, goal-read, few-settled, goal-walked, answer-found, lost-effort, lost-beyond, found-beyond}
 use Rattle.query.proofs.answering.search_answer.Statement.{statement}

@@ -1,7 +1,6 @@
 -- `query::flags::flag_field` meets its contract: the loop's invariant: what the rows passed show has its flag. Assumes nothing.
-use Prim.Native.Nat.{ℕ, _-_}
+use Prim.Native.Nat.{_-_}
 use mathlib.Core.Bool.{cond}
-use mathlib.Core.Path.{_∙_}
 use borrow.Author.Needs.{needs}
 use Rattle.plan.proofs.Sweeping.{Passed, passed-begin, row-ready, passed-fewer, row-seen, passed-next, passed-all}
 use Rattle.search.specs.Places.{indexOf}

@@ -1,9 +1,8 @@
 -- `query::flags::flag_shown` meets its contract: the corner's index is found, and its entry set. Assumes nothing.
-use Prim.Native.Nat.{ℕ, suc, _-_}
-use mathlib.Core.Path.{_≡_, refl, sym, _∙_, ap}
+use Prim.Native.Nat.{_-_}
+use mathlib.Core.Path.{refl}
 use native.Mathlib.Omega.{arith}
 use borrow.Author.Needs.{needs}
-use Rattle.search.specs.Places.{indexOf}
 use Rattle.query.proofs.Flagged.{one-less, some-shown}
 use Rattle.query.proofs.flags.flag_shown.Statement.{statement}
 use Rattle.query.proofs.flags.flag_shown.Tie as tie
