@@ -9,7 +9,7 @@ use lib.ListN.{length, getD}
 use borrow.Author.Tests.{lt-ltb, le-ltb, eq-eqb, ne-eqb}
 use Rattle.lengths.specs.Lengths.{octileOf}
 use Rattle.lengths.specs.Laws.{weight, le-or-lt}
-use Rattle.lengths.specs.Octile.{gap-comm, gap-suc}
+use Rattle.lengths.specs.Octile.{gap-suc}
 use Rattle.ground.proofs.Logic.{true-or-false, not-both}
 use Rattle.plan.specs.Plan.{Lists}
 use Rattle.marks.specs.Marks.{cornerCell}
@@ -26,11 +26,6 @@ use Rattle.chain.proofs.Corners.{corners-ascend, corner-at, corner-inde
 pub apart-same : (w a b : ℕ) → apart w a b ≡ weighs w a b
 unfolding apart
 apart-same w a b = ap₂ (λ (x y : ℕ). weight (octileOf x y)) (gap-suc (a % w) (b % w)) (gap-suc (a / w) (b / w))
-
--- and it is the same both ways
-pub apart-comm : (w a b : ℕ) → apart w a b ≡ apart w b a
-unfolding apart
-apart-comm w a b = ap₂ (λ (x y : ℕ). weight (octileOf x y)) (gap-comm (a % w) (b % w)) (gap-comm (a / w) (b / w))
 
 -- a number is below another, or it, or beyond it
 pub stands : (i k : ℕ) → (i < k) ⊎ ((i ≡ k) ⊎ (k < i))

@@ -7,8 +7,9 @@ use mathlib.Core.List.{List, [], _++_}
 use mathlib.Core.Logic.{inl, inr, ⊎-elim, _≢_, _↔_}
 use native.Mathlib.Nat.{zero-add, add-assoc}
 use native.Mathlib.Omega.{arith}
-use Rattle.lengths.specs.Lengths.{Len, 𝟎, _≼_}
+use Rattle.lengths.specs.Lengths.{Len, 𝟎, _≼_, gap}
 use Rattle.lengths.specs.Laws.{weight, ≼-antisym, 𝟎-least}
+use Rattle.lengths.specs.Octile.{octile-none, gap-none}
 use Rattle.floor.specs.Board.{Place, Dir, Free, corner}
 use Rattle.floor.specs.Words.{Floor, board, placeOf, cellOf}
 use Rattle.ground.specs.Kind.{walkers, octile}
@@ -16,19 +17,24 @@ use Rattle.ground.specs.Walk.{Walk, len}
 use Rattle.ground.specs.Link.{Direct, Chain as GroundChain, last, join}
 use Rattle.ground.proofs.Cells.{corner-free}
 use Rattle.ground.proofs.Numbers.{same-cell, within, free-cell, place-of-free}
-use Rattle.ground.proofs.Walks.{walk-append}
+use Rattle.ground.proofs.Walks.{place-eq, walk-append}
 use Rattle.ground.proofs.Choose.{place-discrete}
 use Rattle.ground.proofs.Chains.{shortest-chain}
 use Rattle.ground.proofs.Walkers.{walker-ways}
 use Rattle.ground.proofs.Bounded.{few-steps, shortest-or-none}
 use Rattle.settling.specs.Chains.{Chain, here, step, Reachable, Shortest}
-use Rattle.settling.specs.Order.{Consistent}
 use Rattle.settling.proofs.Back.{shortest-unique}
-use Rattle.settling.proofs.Instances.{nearest-consistent}
 use Rattle.effort.specs.Effort.{PlaceCell, Far}
-use Rattle.effort.specs.Net.{by-cell, apart, Startable, Joined, netOf}
-use Rattle.effort.proofs.Cells.{apart-positive}
+use Rattle.effort.specs.Net.{apart, Startable, Joined, netOf}
 use Rattle.effort.proofs.Weights.{weight-sum, weighs-≼, ≼-by-weight}
+
+-- two different cells are apart
+apart-positive : (w u v : ℕ) → u ≢ v → apart w u v ≤ 0 → ⊥
+apart-positive w u v two h =
+    let p = placeOf w u in
+    let q = placeOf w v in
+    let z = octile-none (gap (p .x) (q .x)) (gap (p .y) (q .y)) h in
+    two (same-cell w u v (place-eq (gap-none (p .x) (q .x) (z .0)) (gap-none (p .y) (q .y) (z .1))))
 
 -- a floor that no row refuses, with two cells of it of which the first is free, makes a trip
 pub trip-of :
@@ -40,10 +46,6 @@ module _ (w h : ℕ) (words : List ℕ) (start goal : ℕ) where
   -- links have length
   pub links-positive : (u v : ℕ) → Joined w h words start goal u v → apart w u v ≤ 0 → ⊥
   links-positive u v l = apart-positive w u v (l .two)
-
-  -- No link leads to an earlier rank.
-  pub consistent : Consistent by-cell (netOf w h words start goal)
-  consistent = nearest-consistent (netOf w h words start goal) (λ c. c) links-positive
 
   -- two places of the board that are joined lead a chain of the net on
   link-on :

@@ -1,5 +1,4 @@
 -- Laws of the places of a trip, and what a search over them is worth.
-pub mod Cells
 pub mod Weights
 pub mod Bridge
 pub mod Search

@@ -26,14 +26,14 @@ fn side(a: usize, b: usize) -> usize
 }
 
 // The direction of the direct line's first step from (x, y) to (u, v), if they are two cells.
-pub fn heading(x: usize, y: usize, u: usize, v: usize) -> usize
+fn heading(x: usize, y: usize, u: usize, v: usize) -> usize
     ensures { λ r. ⌜ (r < 8) × (dirAt r ≡ diagonal-way (at x y) (at u v)) ⌝ }
 {
     HEADINGS[3 * side(x, u) + side(y, v)]
 }
 
 // The column or row a, one step nearer to b.
-pub fn nearer(a: usize, b: usize) -> usize
+fn nearer(a: usize, b: usize) -> usize
     requires { ⌜ a < 65536 ⌝ }
     ensures { λ r. ⌜ Nearer a b r ⌝ }
 {
@@ -41,7 +41,7 @@ pub fn nearer(a: usize, b: usize) -> usize
 }
 
 // How many steps the direct line has: the greater offset.
-pub fn line_steps(x: usize, y: usize, u: usize, v: usize) -> usize
+fn line_steps(x: usize, y: usize, u: usize, v: usize) -> usize
     ensures { λ r. ⌜ r ≡ steps (at x y) (at u v) ⌝ }
 {
     let dx = lengths::apart(x, u);
