@@ -40,7 +40,7 @@ module _ (w h : ℕ) (words : List ℕ) (f : Floor w h words) where
       rw (place, bit, getD-take (rowWords w) (drop (y * rowWords w) words) (k / 64) 0 within, getD-drop)
 
   -- no bit of row y past its cells is 0
-  row-used : (y : ℕ) → y < h → (x : ℕ) → w ≤ x → x < 64 * rowWords w → bitFree (rowOf w words y) x ≡ false
+  pub row-used : (y : ℕ) → y < h → (x : ℕ) → w ≤ x → x < 64 * rowWords w → bitFree (rowOf w words y) x ≡ false
   row-used y l x p q =
       not-so _ (λ e. f .used (record { row = y; bit = x; row-in = l; unused = p; bit-in = q; clear = e }))
 

@@ -8,3 +8,5 @@ pub mod Sums
 pub mod Ones
 pub mod FreeCells
 pub mod Windows
+pub mod Bits
+pub mod CellMasks
