@@ -1,8 +1,10 @@
 -- What is seen from a turning point is what it is linked to, and whether two cells are linked is decided. Assumes nothing.
-use Prim.Native.Nat.{ℕ, _*_, _<_}
+use Prim.Native.Nat.{ℕ, _*_, _≤_, _<_}
 use mathlib.Core.Bool.{true, Bool-discrete}
 use mathlib.Core.List.{List}
+use mathlib.Core.Logic.{⊎-elim}
 use mathlib.Core.Path.{_≡_}
+use native.Mathlib.Omega.{arith}
 use lib.ListN.{length, getD}
 use Rattle.floor.specs.Board.{Board, Padded, Place, corner}
 use Rattle.floor.specs.Words.{placeOf}
@@ -14,10 +16,11 @@ use Rattle.ground.proofs.Joined.{direct-dec}
 use Rattle.marks.specs.Marks.{cornerCell, cornerCells}
 use Rattle.plan.specs.Plan.{LinkedCells}
 use Rattle.plan.specs.Rising.{In}
+use Rattle.plan.specs.Linking.{Crowded}
 use Rattle.fields.specs.Fields.{Seen}
-use Rattle.plan.proofs.Risings.{at-in}
+use Rattle.plan.proofs.Risings.{at-in, rising-fewer}
 use Rattle.plan.proofs.Linked.{shown-link, link-shown}
-use Rattle.plan.proofs.Pickings.{select-in, in-select}
+use Rattle.plan.proofs.Pickings.{select-in, in-select, select-rising}
 
 -- whether two places are linked is decided
 pub link-dec : {B : Board} → Padded B → (s t : Place) → Dec (Link walkers B s t)
@@ -40,14 +43,22 @@ module _ (w h : ℕ) (words : List ℕ) where
       (getD (cornerCells w h words) i 0 < w * h) × (cornerCell w h words (getD (cornerCells w h words) i 0) ≡ true)
   corner-entry i l = select-in (cornerCell w h words) (w * h) _ (at-in (cornerCells w h words) i l)
 
+  -- what is seen from a cell is a turning point
+  pub seen-corner : (cell t : ℕ) → Seen w h words cell t → In t (cornerCells w h words)
+  seen-corner cell t s = in-select (cornerCell w h words) (w * h) t (s .shown .0) (s .shown .1 .turns)
+
+  -- there is room for what is seen where there is for all turning points
+  pub found-room : (cell : ℕ) → length (cornerCells w h words) ≤ 2048 → (room : ℕ) → room ≡ 2048 → Crowded w h words cell room 0 → ⊥
+  found-room cell few room long o =
+      let fewer = rising-fewer (o .found) (cornerCells w h words) (o .rising) (select-rising (cornerCell w h words) (w * h))
+      (λ t p. seen-corner cell t (o .seen t p)) in
+      ⊎-elim (λ p. omega arith) (λ p. omega arith) (o .too-many)
+
   module _ (cell : ℕ) (turns : cornerCell w h words cell ≡ true) (t : ℕ) where
     -- what is seen from a turning point is one to which it is linked
     pub seen-linked : Seen w h words cell t → In t (cornerCells w h words) × LinkedCells walkers w h words cell t
     seen-linked s =
-        let shows = s .shown .1 in (
-          in-select (cornerCell w h words) (w * h) t (s .shown .0) (shows .turns),
-          shown-link (padded w h words) (s .field) (s .field-in) shows turns,
-        )
+        (seen-corner cell t s, shown-link (padded w h words) (s .field) (s .field-in) (s .shown .1) turns)
 
     -- and the other way round
     pub linked-seen : In t (cornerCells w h words) → LinkedCells walkers w h words cell t → Seen w h words cell t

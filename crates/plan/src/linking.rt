@@ -49,7 +49,7 @@ fn link_field(
 }
 
 // Writes the neighbours of `cell` from entry `from` on, ascending.
-fn link_one(
+pub fn link_one(
     words: &[u64],
     w: usize,
     h: usize,

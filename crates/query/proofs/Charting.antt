@@ -37,7 +37,7 @@ module _ (w h : ℕ) (words corners : List ℕ) (cell n c place own : ℕ) (W : 
       record { only = only-same n W c; flags = λ i l. (λ f. absurd (let e = empty i in omega arith), λ s. absurd (d (s .0))) }
 
   -- a cell with its own place has those of all corners that are seen from it
-  pub end-all : place ≡ own → Ascending corners → (W′ : List ℕ) → Flagging w h words corners cell n c W W′ → AllFlagged w h words corners cell n c W′ →
+  pub end-all : place ≡ own → Ascending corners → (W′ : List ℕ) → Flagging (Seen w h words cell) corners n c W W′ → AllFlagged (Seen w h words cell) corners n c W′ →
       EndFlags w h words corners cell n c place own W W′
   end-all e ascending W′ f all =
       record {
@@ -82,6 +82,7 @@ module _ (w h : ℕ) (words : List ℕ) (p : Lists) (start goal : ℕ) (W : List
           ascending = corners-ascend own;
         };
         listed = λ t seen. corner-index own t (seen .shown .0) (seen .shown .1 .turns);
+        few = rw (← own .marks .ascending) (able .fits .few-corners);
       }
 
   -- a place of its own is that of a cell that is no corner
