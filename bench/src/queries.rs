@@ -1,4 +1,4 @@
-//! One query beside independent searches: over the cells, toward the goal, and over links.
+//! One query beside independent searches: over the cells, toward the goal, over the cells by a table, and over links.
 use crate::chance::Chance;
 use crate::clock::{self, median};
 use crate::floors::{self, Kind};
@@ -23,6 +23,7 @@ const ROUNDS: usize = 3;
 struct Site {
     lent: Lent,
     cells: CellSearch,
+    tabled: CellSearch,
     links: LinkSearch,
     free: Vec<usize>,
 }
@@ -36,7 +37,8 @@ impl Site {
                 let mut surveyor = Surveyor::default();
                 surveyor.survey(lent.w, lent.h, &lent.words);
                 let cells = CellSearch::of(&surveyor.grid);
-                return Site { lent, cells, links: LinkSearch::of(surveyor), free: floor.free_cells() };
+                let tabled = CellSearch::tabled(&surveyor.grid);
+                return Site { lent, cells, tabled, links: LinkSearch::of(surveyor), free: floor.free_cells() };
             }
         }
     }
@@ -49,14 +51,15 @@ impl Site {
         assert!(code != 0 || self.links.route == self.lent.route[..cells as usize], "another route");
         assert_eq!(self.cells.nearest_first(start, goal).length, length);
         assert_eq!(self.cells.toward_goal(start, goal).length, length);
+        assert_eq!(self.tabled.nearest_first(start, goal).length, length);
         assert_eq!(self.lent.checks(start, goal), [11, 0, 0, 0, 0]);
     }
 
-    /// The times for a batch: of the queries, of their part after the checks, and of the three searches. A query checks
+    /// The times for a batch: of the queries, of their part after the checks, and of the four searches. A query checks
     /// the plan each time, which takes longer than all the rest. So next to each query stands the same one with a work
     /// entry too few, which ends after the checks, and the difference is the rest.
-    fn race(&mut self, batch: &[(usize, usize)]) -> [f64; 5] {
-        let mut times = vec![Vec::new(); 5];
+    fn race(&mut self, batch: &[(usize, usize)]) -> [f64; 6] {
+        let mut times = vec![Vec::new(); 6];
         for _ in 0..ROUNDS {
             let (mut whole, mut checks) = (0.0, 0.0);
             for query in batch.chunks(1) {
@@ -65,8 +68,10 @@ impl Site {
             }
             let nearest = clock::time(|| clock::each(batch, |(s, g)| self.cells.nearest_first(s, g)));
             let toward = clock::time(|| clock::each(batch, |(s, g)| self.cells.toward_goal(s, g)));
+            let tabled = clock::time(|| clock::each(batch, |(s, g)| self.tabled.nearest_first(s, g)));
             let links = clock::time(|| clock::each(batch, |(s, g)| self.links.query(s, g)));
-            for (times, time) in times.iter_mut().zip([whole, whole - checks, nearest, toward, links]) {
+            let all = [whole, whole - checks, nearest, toward, tabled, links];
+            for (times, time) in times.iter_mut().zip(all) {
                 times.push(time);
             }
         }
@@ -77,25 +82,27 @@ impl Site {
 pub fn report() {
     println!("A query on floors of 128 x 128, {QUERIES} random ones: how many times as fast as the searches over cells,");
     println!("and as a multiple of the independent search over links (aim: at most 2.0). In brackets with its checks.");
-    let heads = ["floor", "aim", "nearest first", "toward goal", "links"];
-    println!("{:20} {:>7}  {:>18} {:>18} {:>18}", heads[0], heads[1], heads[2], heads[3], heads[4]);
+    let heads = ["floor", "aim", "nearest first", "toward goal", "by a table", "links"];
+    let [floor, aim, nearest, toward, tabled, links] = heads;
+    println!("{floor:20} {aim:>7}  {nearest:>16} {toward:>16} {tabled:>16} {links:>16}");
     let mut chance = Chance::new(2);
     for (name, kind, aim) in KINDS {
         let mut site = Site::of(kind, &mut chance);
         let queries: Vec<(usize, usize)> =
             (0..QUERIES).map(|_| (chance.pick(&site.free), chance.pick(&site.free))).collect();
         queries.iter().for_each(|&(start, goal)| site.agree(start, goal));
-        let mut sums = [0.0; 5];
+        let mut sums = [0.0; 6];
         for batch in queries.chunks(BATCH) {
             sums.iter_mut().zip(site.race(batch)).for_each(|(sum, time)| *sum += time);
         }
-        let [whole, after, nearest, toward, links] = sums;
+        let [whole, after, nearest, toward, tabled, links] = sums;
         let both = |after: f64, whole: f64| format!("{after:.2} [{whole:.3}]");
         println!(
-            "{name:20} {:>7}  {:>18} {:>18} {:>18}",
+            "{name:20} {:>7}  {:>16} {:>16} {:>16} {:>16}",
             format!(">= {aim}"),
             both(nearest / after, nearest / whole),
             both(toward / after, toward / whole),
+            both(tabled / after, tabled / whole),
             both(after / links, whole / links),
         );
     }

@@ -7,7 +7,9 @@ use std::collections::BinaryHeap;
 /// A search over cells with its memory, which is kept from one query to the next.
 pub struct CellSearch {
     w: usize,
-    steps: Vec<u8>,
+    grid: Grid,
+    /// The legal steps of every cell, for a search that looks them up; a plain one tests them on the floor.
+    steps: Option<Vec<u8>>,
     /// How far a step in each direction goes among the numbers of cells.
     jumps: [isize; 8],
     label: Vec<u32>,
@@ -19,18 +21,31 @@ pub struct CellSearch {
 }
 
 impl CellSearch {
-    /// The legal steps are looked up once, before any query.
+    /// A plain search: it has the floor and nothing else.
     pub fn of(grid: &Grid) -> CellSearch {
         let cells = grid.w * grid.h;
         CellSearch {
             w: grid.w,
-            steps: grid.steps(),
+            grid: grid.clone(),
+            steps: None,
             jumps: OFFSETS.map(|(dx, dy)| dy * grid.w as isize + dx),
             label: vec![0; cells],
             came: vec![0; cells],
             settled: vec![false; cells],
             waiting: BinaryHeap::new(),
             route: Vec::new(),
+        }
+    }
+
+    /// A search that has all legal steps of the floor in a table, made before any query.
+    pub fn tabled(grid: &Grid) -> CellSearch {
+        CellSearch { steps: Some(grid.steps()), ..CellSearch::of(grid) }
+    }
+
+    fn legal(&self, cell: usize) -> u8 {
+        match &self.steps {
+            Some(steps) => steps[cell],
+            None => self.grid.legal(self.grid.at(cell % self.w, cell / self.w)),
         }
     }
 
@@ -66,7 +81,7 @@ impl CellSearch {
                 return Found { length: Some(length_of(self.w, &self.route)), settled };
             }
             let label = self.label[cell];
-            let mut left = self.steps[cell];
+            let mut left = self.legal(cell);
             while left != 0 {
                 let dir = left.trailing_zeros() as usize;
                 left &= left - 1;

@@ -4,7 +4,7 @@
 pub const OFFSETS: [(isize, isize); 8] =
     [(0, -1), (1, 0), (0, 1), (-1, 0), (1, -1), (1, 1), (-1, 1), (-1, -1)];
 
-#[derive(Default)]
+#[derive(Clone, Default)]
 pub struct Grid {
     pub w: usize,
     pub h: usize,
@@ -67,14 +67,18 @@ impl Grid {
         self.free[across] && self.free[down as usize] && self.free[(down + dx) as usize]
     }
 
-    /// The legal steps of every cell by its number, one bit a direction.
+    /// The legal steps from a free place, one bit a direction.
+    pub fn legal(&self, at: usize) -> u8 {
+        let free = |dir: usize| self.free[self.go(at, dir)] && (dir < 4 || self.diagonal(at, dir));
+        (0..8).filter(|&dir| free(dir)).fold(0, |mask, dir| mask | 1 << dir)
+    }
+
+    /// The legal steps of every cell by its number.
     pub fn steps(&self) -> Vec<u8> {
         let mut all = Vec::with_capacity(self.w * self.h);
         for y in 0..self.h {
             for at in self.at(0, y)..self.at(self.w, y) {
-                let legal = |dir: usize| self.free[self.go(at, dir)] && (dir < 4 || self.diagonal(at, dir));
-                let mask = (0..8).filter(|&dir| legal(dir)).fold(0, |mask, dir| mask | 1 << dir);
-                all.push(if self.free[at] { mask } else { 0 });
+                all.push(if self.free[at] { self.legal(at) } else { 0 });
             }
         }
         all
