@@ -1,23 +1,19 @@
 -- Steps in one direction on a floor: where they lead, and how far they can. Assumes nothing.
-use Prim.Native.Nat.{ℕ, zero, suc, _+_, _-_, _*_, _/_, _≤_, _<_}
+use Prim.Native.Nat.{ℕ, suc, _+_, _-_, _*_, _≤_, _<_}
 use mathlib.Core.Bool.{true}
 use mathlib.Core.List.{List}
 use mathlib.Core.Logic.{⊎-elim}
-use mathlib.Core.Path.{_≡_, refl, sym, _∙_, ap}
-use native.Mathlib.Nat.{mul-comm, mod-eq-of-lt, div-eq-of-lt, mul-add-mod-self-right, mul-add-div-right}
-use native.Mathlib.Decide.{decLe}
+use mathlib.Core.Path.{_≡_, refl, _∙_}
 use native.Mathlib.Omega.{arith}
-use lib.Dec.{ltb}
 use lib.ListN.{getD, replicate}
 use Rattle.floor.specs.Board.{Place, at, Free, Dir, Offset, less, same, more, dx, dy, shift, moving}
 use Rattle.floor.specs.Window.{InWindow}
-use Rattle.floor.specs.Words.{board, rowOf, numberOf, placeOf, Sized}
-use Rattle.floor.proofs.Places.{row-ends, padded, free-past, freeIn-past}
+use Rattle.floor.specs.Words.{board, Sized}
+use Rattle.floor.proofs.Places.{padded}
 use Rattle.ground.specs.Kind.{walkers}
 use Rattle.ground.specs.Walk.{Legal}
 use Rattle.ground.specs.Clearance.{ahead}
-use Rattle.ground.specs.Within.{Within}
-use Rattle.ground.proofs.Logic.{true-or-false, not-both, and-right}
+use Rattle.ground.proofs.Logic.{true-or-false, not-both}
 use Rattle.ground.proofs.Cells.{column-inside, row-inside}
 use Rattle.ground.proofs.Near.{y-moves}
 use Rattle.ground.proofs.Walks.{place-eq}

@@ -1,5 +1,5 @@
 -- A sweep passes a row of a floor: what the code's tests say of the row, for each way that they can go. Assumes nothing.
-use Prim.Native.Nat.{ℕ, suc, _+_, _-_, _*_, min, _≤_, _<_}
+use Prim.Native.Nat.{ℕ, suc, _+_, _-_, _*_, _/_, min, _≤_, _<_}
 use mathlib.Core.Bool.{Bool, true, false, true≢false}
 use mathlib.Core.List.{List}
 use mathlib.Core.Logic.{⊎-elim}
@@ -14,13 +14,14 @@ use Rattle.ground.specs.Clearance.{ahead, Clearance}
 use Rattle.ground.proofs.Logic.{true-or-false, not-both}
 use Rattle.ground.proofs.Cells.{column-inside, row-inside}
 use Rattle.marks.specs.Marks.{ClearanceAt}
-use Rattle.fields.specs.Fields.{slant, side, Opened, Come, ShowsIn, Standing, begun, ended, NewRow, Said, AllSaid, RowRead, PassedRow}
+use Rattle.fields.specs.Fields.{slant, side, across, Opened, Come, ShowsIn, Standing, begun, ended, NewRow, Known, OnSome, StepTold, NextTo, Ends, Said, AllSaid, RowRead, PassedRow}
 use Rattle.fields.specs.declared.Sweep.{Sweep}
 use Rattle.fields.specs.declared.RowEnd.{RowEnd}
-use Rattle.fields.proofs.Rays.{ahead-next, step-free, ray-free}
+use Rattle.fields.proofs.Rays.{ahead-next, step-free, ray-free, ray-step}
 use Rattle.fields.proofs.Sweeps.{AtEnd, open-turn, open-wall, opened-more, shows-first, not-behind, only-first, shows-end, only-end, come-more, none-blocked}
 use Rattle.ground.proofs.Numbers.{place-of-number, number-in}
 use Rattle.fields.proofs.Aheads.{column-of-free, row-of-free, few-steps, few-rows}
+use Rattle.fields.proofs.Clears.{ends-turn, entry-in, entry-clear, behind}
 
 -- ---- what a row shows, as a number
 module _ (w h : ℕ) (words : List ℕ) (s : Sweep) where
@@ -74,18 +75,37 @@ module _ {w h : ℕ} {words clear : List ℕ} {s : Sweep} (new : NewRow w h word
   here-free : Free B here
   here-free = subst (Free B) (sym (new .standing .there)) (ray-free B d (s .row) (s .row) from (new .standing .come .ray) (omega arith))
 
+  -- its floor and clearances
+  pub known : Known w h words clear
+  known = record { floor = new .floor; long = new .long; cleared = new .cleared }
+
+  -- the same of the cell where the row begins
+  pub begins-on : OnSome w clear (s .x) (s .y)
+  begins-on = record { h = h; words = words; known = known; free = here-free }
+
+  -- a test of its diagonal step
+  pub told-step : {told : Bool} → StepTold w clear (s .x) (s .y) (s .field) told → step B d here ≡ told
+  unfolding begins-on
+  told-step t = sym (t begins-on)
+
   -- the entry that the code reads
-  pub entry-in : 4 * numberOf w (s .x) (s .y) + side (s .field) < length clear
-  entry-in = omega (arith, number-in w h (s .x) (s .y) (new .standing .column-in) (new .standing .row-in), new .long)
+  pub row-entry : 4 * numberOf w (s .x) (s .y) + side (s .field) < length clear
+  row-entry = entry-in known (s .x) (s .y) (side (s .field)) (omega arith) here-free
 
   -- is the row's clearance
   pub row-clear : (m : ℕ) → m ≡ getD clear (4 * numberOf w (s .x) (s .y) + side (s .field)) 0 → RowClear w h words s m
   row-clear m e =
-      let read : ClearanceAt B c here m =
-      rw e (subst (λ p. ClearanceAt B c p (getD clear (4 * numberOf w (s .x) (s .y) + side (s .field)) 0)) (place-of-number w (s .x) (s .y) (new .standing .column-in))
-      (new .cleared (numberOf w (s .x) (s .y)) (side (s .field)) (number-in w h (s .x) (s .y) (new .standing .column-in) (new .standing .row-in)) (omega arith))) in
-      let is : Clearance B c here m = ⊎-elim (λ b. not-both here-free (b .0)) (λ r. r) read in
+      let is : Clearance B c here m = rw e (entry-clear known (s .x) (s .y) (side (s .field)) (omega arith) here-free) in
       record { clear = is; few = few-steps w h words (new .floor .sized) c m here here-free (is .free m (omega arith)) }
+
+  -- the cell behind the beginning, across, where the row is not the first
+  pub row-behind : 0 < s .row → (1 ≤ s .x + 2 * (s .field / 4)) × NextTo w h words (s .x + 2 * (s .field / 4) - 1) (s .y) (s .x) (s .y) (across (s .field))
+  row-behind z =
+      let ray = new .standing .come .ray in
+      let rows : s .row ≡ suc (s .row - 1) = omega arith in
+      behind w h words (s .field) (new .standing .field-in) (ahead d (s .row - 1) from)
+      (ray-free B d (s .row) (s .row - 1) from ray (omega arith)) (ray-step B d (s .row) (s .row - 1) from ray (omega arith))
+      (s .x) (s .y) (new .standing .there ∙ ap (λ n. ahead d n from) rows ∙ ahead-next d (s .row - 1) from)
 
   -- the code may go where it is free
   goes : (dir k : ℕ) → dir < 8 → k < 255 → Free B (ahead (dirAt dir) k here) → Goes s dir k
@@ -98,15 +118,31 @@ module _ {w h : ℕ} {words clear : List ℕ} {s : Sweep} (new : NewRow w h word
     row-inside (padded w h words) free,
   )
 
-  -- so to the end of the row's clearance
-  pub goes-row : (m : ℕ) → RowClear w h words s m → Goes s (side (s .field)) m
-  goes-row m r = goes (side (s .field)) m (omega arith) (r .few) (r .clear .free m (omega arith))
+  -- so along the row's clearance
+  pub goes-row : (m k : ℕ) → RowClear w h words s m → k ≤ m → Goes s (side (s .field)) k
+  goes-row m k r l = goes (side (s .field)) k (omega arith) (let f = r .few in omega arith) (r .clear .free k l)
 
-  -- which is a cell
+  -- to its end, which is a cell
   pub end-in : (m x y : ℕ) → RowClear w h words s m → at x y ≡ ahead c m here → (x < w) × (y < h)
   end-in m x y r e =
       let free : Free B (at x y) = subst (Free B) (sym e) (r .clear .free m (omega arith)) in
       (column-of-free w h words x y free, row-of-free w h words x y free)
+
+  -- next to the cell before
+  pub end-next : (m qx qy x y : ℕ) → RowClear w h words s m → 0 < m → at qx qy ≡ ahead c (m - 1) here → at x y ≡ ahead c m here →
+      NextTo w h words qx qy x y (side (s .field))
+  end-next m qx qy x y r z p e =
+      let one-more : m ≡ suc (m - 1) = omega arith in
+      record {
+        straight = omega arith;
+        free = subst (Free B) (sym p) (r .clear .free (m - 1) (omega arith));
+        next-free = subst (Free B) (sym e) (r .clear .free m (omega arith));
+        there = e ∙ ap (λ k. ahead c k here) one-more ∙ ahead-next c (m - 1) here ∙ ap (go c) (sym p);
+      }
+
+  -- and a turning point if a step leads on from it
+  pub row-ends : (m x y : ℕ) → RowClear w h words s m → at x y ≡ ahead c m here → Ends w h words x y (side (s .field))
+  row-ends m x y r e on = subst (λ p. corner B p ≡ true) (sym e) (ends-turn (r .clear) (subst (λ p. Free B (go c p)) e on))
 
   -- and by a legal step
   pub goes-on : step B d here ≡ true → Goes s (slant (s .field)) 1

@@ -1,14 +1,14 @@
 -- The sweep that finds the turning points to which a place is linked (000, Algorithm 3, with its slip corrected): eight fields, each of a
 -- diagonal direction and a straight one beside it, row by row. These are states of code; proofs/ ties them to Definition 2.
 use Prim.Native.Nat.{ℕ, suc, _+_, _*_, _/_, _%_, _≤_, _<_}
-use mathlib.Core.Bool.{Bool, true, false, cond}
+use mathlib.Core.Bool.{Bool, true, false, cond, not, _&&_}
 use mathlib.Core.List.{List}
 use mathlib.Core.Logic.{_↔_}
 use mathlib.Core.Path.{_≡_}
 use lib.Dec.{ltb}
 use lib.ListN.{length, replicate}
 use Rattle.lengths.specs.Lengths.{gap}
-use Rattle.floor.specs.Board.{Board, Place, at, Free, Dir, dirAt, corner}
+use Rattle.floor.specs.Board.{Board, Place, at, Free, Dir, dirAt, go, step, corner}
 use Rattle.floor.specs.Words.{board, placeOf, Floor, cellOf}
 use Rattle.ground.specs.Kind.{walkers}
 use Rattle.ground.specs.Walk.{Legal}
@@ -24,6 +24,13 @@ slant f = 4 + f / 2
 
 abbrev pub side : ℕ → ℕ
 side f = (f / 2 + f % 2) % 4
+
+-- and of the straight ones of which the diagonal one is made: E or W, and N or S
+abbrev pub across : ℕ → ℕ
+across f = 1 + 2 * (f / 4)
+
+abbrev pub along : ℕ → ℕ
+along f = 2 * ((f / 2 + 1) / 2 % 2)
 
 -- k steps in direction c from p are free and lead to no turning point
 pub record Open (B : Board) (c : Dir) (p : Place) (k : ℕ) : Type 0 where
@@ -77,6 +84,40 @@ pub record NewRow (w h : ℕ) (words clear : List ℕ) (s : Sweep) : Type 0 wher
   pub cleared : Cleared w h words clear
   pub standing : Standing w h words s
 
+-- ---- what is asked of clearances
+-- a floor, and its clearances
+pub record Known (w h : ℕ) (words clear : List ℕ) : Type 0 where
+  pub floor : Floor w h words
+  pub long : 4 * (w * h) ≤ length clear
+  pub cleared : Cleared w h words clear
+
+-- a free cell of some floor of a width that has these clearances
+pub record OnSome (w : ℕ) (clear : List ℕ) (x y : ℕ) : Type 0 where
+  pub h : ℕ
+  pub words : List ℕ
+  pub known : Known w h words clear
+  pub free : Free (board w h words) (at x y)
+
+-- a test tells of such a cell whether a field's diagonal step from it is legal
+abbrev pub StepTold : ℕ → List ℕ → ℕ → ℕ → ℕ → Bool → Type 0
+StepTold w clear x y f told = (o : OnSome w clear x y) → told ≡ step (board w (o .h) (o .words)) (dirAt (slant f)) (at x y)
+
+-- cell (nx, ny) is the next in a straight direction from cell (x, y), and both are free
+pub record NextTo (w h : ℕ) (words : List ℕ) (x y nx ny dir : ℕ) : Type 0 where
+  pub straight : dir < 4
+  pub free : Free (board w h words) (at x y)
+  pub next-free : Free (board w h words) (at nx ny)
+  pub there : at nx ny ≡ go (dirAt dir) (at x y)
+
+-- cell (x, y) is a turning point if a step leads on from it in a direction, as it is where a clearance in that direction ends
+abbrev pub Ends : ℕ → ℕ → List ℕ → ℕ → ℕ → ℕ → Type 0
+Ends w h words x y dir = Free (board w h words) (go (dirAt dir) (at x y)) → corner (board w h words) (at x y) ≡ true
+
+-- a direction leads to a blocked place from q, and to a free one from p
+abbrev pub opensOut : Board → Dir → Place → Place → Bool
+opensOut B s q p = not (B (go s q .x) (go s q .y)) && B (go s p .x) (go s p .y)
+
+-- ---- what a row tells
 -- a number, if it is not 0, is one more than a cell that a sweep's row shows
 abbrev pub Said : ℕ → ℕ → List ℕ → Sweep → ℕ → Type 0
 Said w h words s shown =

@@ -3,11 +3,10 @@ ghost use mathlib.Core.Bool.{false, _&&_};
 ghost use mathlib.Core.Path.{_≡_};
 ghost use Prim.Native.Nat.{suc, _+_, _-_, _*_, _<_, _≤_};
 ghost use lib.Dec.{ltb};
-ghost use Rattle.floor.specs.Board.{at, corner, dirAt};
-ghost use Rattle.floor.specs.Window.{cells};
+ghost use Rattle.floor.specs.Board.{at, Free, corner, dirAt};
 ghost use Rattle.floor.specs.Words.{board, numberOf};
 ghost use Rattle.ground.specs.Clearance.{ahead};
-ghost use Rattle.fields.specs.Fields.{begun, ended, NewRow, RowRead, PassedRow};
+ghost use Rattle.fields.specs.Fields.{begun, ended, NewRow, Known, OnSome, StepTold, NextTo, Ends, opensOut, RowRead, PassedRow};
 
 // The sweep of one field from cell (sx, sy): row `row` begins at cell (x, y), `reach` steps are open in all rows before it, `shown` is one
 // more than the cell of the turning point that the row just passed shows, or 0, and `on` says whether there is a row to pass.
@@ -82,15 +81,103 @@ fn named(w: usize, x: usize, y: usize) -> usize
     y * w + x + 1
 }
 
-// The row begins at a turning point, and is not the first.
-fn turns(win: [[bool; 3]; 3], row: usize) -> bool
-    ensures { λ r. ⌜ r ≡ (ltb 0 row && corner (cells win) (at 0 0)) ⌝ }
+// A step in direction side leads on from cell (x, y), and none does from cell (qx, qy).
+fn opens_out(
+    words: &[u64],
+    w: usize,
+    h: usize,
+    clear: &[u8],
+    qx: usize,
+    qy: usize,
+    x: usize,
+    y: usize,
+    side: usize,
+) -> bool
+    requires { ⌜ Known w h (now words) (now clear) × ((side < 4) × (Free (board w h (now words)) (at qx qy) × Free (board w h (now words)) (at x y))) ⌝ }
+    ensures { λ r. ⌜ r ≡ opensOut (board w h (now (words .entry))) (dirAt side) (at qx qy) (at x y) ⌝ }
 {
-    if 0 < row {
-        floor::is_corner(win)
+    if 0 < marks::clearance(clear, w, qx, qy, side) {
+        false
+    } else {
+        0 < marks::clearance(clear, w, x, y, side)
+    }
+}
+
+// Cell (x, y), next to cell (qx, qy) in direction dir and the end of a clearance, is a turning point: a step leads on, or a side opens out.
+fn ends_on_corner(
+    words: &[u64],
+    w: usize,
+    h: usize,
+    clear: &[u8],
+    qx: usize,
+    qy: usize,
+    x: usize,
+    y: usize,
+    dir: usize,
+) -> bool
+    requires { ⌜ Known w h (now words) (now clear) × (NextTo w h (now words) qx qy x y dir × Ends w h (now words) x y dir) ⌝ }
+    ensures { λ r. ⌜ r ≡ corner (board w h (now (words .entry))) (at x y) ⌝ }
+{
+    if 0 < marks::clearance(clear, w, x, y, dir) {
+        return true;
+    }
+    if opens_out(words, w, h, clear, qx, qy, x, y, (dir + 1) % 4) {
+        return true;
+    }
+    opens_out(words, w, h, clear, qx, qy, x, y, (dir + 3) % 4)
+}
+
+// Cell (nx, ny), the next one of cell (x, y) in direction dir, is a turning point. A clearance that goes on beyond it says that it is none.
+fn corner_next(
+    words: &[u64],
+    w: usize,
+    h: usize,
+    clear: &[u8],
+    x: usize,
+    y: usize,
+    nx: usize,
+    ny: usize,
+    dir: usize,
+) -> bool
+    requires { ⌜ Known w h (now words) (now clear) × NextTo w h (now words) x y nx ny dir ⌝ }
+    ensures { λ r. ⌜ r ≡ corner (board w h (now (words .entry))) (at nx ny) ⌝ }
+{
+    if 1 < marks::clearance(clear, w, x, y, dir) {
+        false
+    } else {
+        ends_on_corner(words, w, h, clear, x, y, nx, ny, dir)
+    }
+}
+
+// The row begins at a turning point, and is not the first. A legal diagonal step led there, so the cell behind it across is free.
+fn turns(words: &[u64], w: usize, h: usize, clear: &[u8], s: Sweep) -> bool
+    requires { ⌜ NewRow w h (now words) (now clear) s ⌝ }
+    ensures { λ r. ⌜ r ≡ (ltb 0 (s .row) && corner (board w h (now (words .entry))) (at (s .x) (s .y))) ⌝ }
+{
+    if 0 < s.row {
+        let x = s.x;
+        let y = s.y;
+        let west = 2 * (s.field / 4);
+        corner_next(words, w, h, clear, x + west - 1, y, x, y, 1 + west)
     } else {
         false
     }
+}
+
+// The field's diagonal step from free cell (x, y) is legal: a step leads across, one along, and from there one across.
+fn slants(clear: &[u8], w: usize, x: usize, y: usize, field: usize) -> bool
+    requires { ⌜ OnSome w (now clear) x y × (field < 8) ⌝ }
+    ensures { λ r. ⌜ StepTold w (now (clear .entry)) x y field r ⌝ }
+{
+    let across = 1 + 2 * (field / 4);
+    if marks::clearance(clear, w, x, y, across) == 0 {
+        return false;
+    }
+    let along = 2 * ((field / 2 + 1) / 2 % 2);
+    if marks::clearance(clear, w, x, y, along) == 0 {
+        return false;
+    }
+    0 < marks::clearance(clear, w, x, y + along - 1, across)
 }
 
 // What a row tells that begins at no turning point, or is the first. Only where the clearance of its beginning ends can it show one, and
@@ -109,7 +196,10 @@ fn row_end(words: &[u64], w: usize, h: usize, clear: &[u8], s: Sweep) -> RowEnd
             let e = ahead_of(x, y, dir, m);
             let ex = e.x;
             let ey = e.y;
-            if floor::corner_at(words, w, h, ex, ey) {
+            let q = ahead_of(x, y, dir, m - 1);
+            let qx = q.x;
+            let qy = q.y;
+            if ends_on_corner(words, w, h, clear, qx, qy, ex, ey, dir) {
                 RowEnd {
                     shown: named(w, ex, ey),
                     reach: m - 1,
@@ -146,21 +236,19 @@ fn stop(s: Sweep, shown: usize) -> Sweep
     }
 }
 
-// The sweep passes its row, and goes on to the next if there is one.
+// The sweep passes its row, and goes on to the next if there is one. Clearances tell it all: the words are there for the promise.
 pub fn pass_row(words: &[u64], w: usize, h: usize, clear: &[u8], s: Sweep) -> Sweep
     requires { ⌜ NewRow w h (now words) (now clear) s ⌝ }
     ensures { λ r. ⌜ PassedRow w h (now (words .entry)) s r ⌝ }
 {
     let x = s.x;
     let y = s.y;
-    let win = floor::window(words, w, h, x, y);
-    if turns(win, s.row) {
+    if turns(words, w, h, clear, s) {
         return stop(s, named(w, x, y));
     }
     let e = row_end(words, w, h, clear, s);
-    let dir = 4 + s.field / 2;
-    if floor::step_legal(win, dir) {
-        let p = ahead_of(x, y, dir, 1);
+    if slants(clear, w, x, y, s.field) {
+        let p = ahead_of(x, y, 4 + s.field / 2, 1);
         return Sweep {
             sx: s.sx,
             sy: s.sy,

@@ -3,7 +3,7 @@ use Prim.Native.Nat.{_<_}
 use native.Mathlib.Nat.{le-trans}
 use native.Mathlib.Omega.{arith}
 use borrow.Author.Needs.{needs}
-use Rattle.fields.proofs.Passes.{RowClear, entry-in, row-clear, goes-row, end-in, read-far, read-none, read-wall, read-turn}
+use Rattle.fields.proofs.Passes.{RowClear, known, row-entry, row-clear, goes-row, end-in, end-next, row-ends, read-far, read-none, read-wall, read-turn}
 use Rattle.fields.proofs.row_end.Statement.{statement}
 use Rattle.fields.proofs.row_end.Tie as tie
 
@@ -12,7 +12,7 @@ abbrev start : tie.After-clearance → tie.Start
 start c = c .before .before .before .before .before
 
 clearance-requires : tie.Need-clearance-requires
-clearance-requires c κs = entry-in (c .before .before .before .before .pre .0)
+clearance-requires c κs = row-entry (c .before .before .before .before .pre .0)
 
 -- what the clearance says
 cleared : (c : tie.After-clearance) →
@@ -20,18 +20,30 @@ cleared : (c : tie.After-clearance) →
 cleared c = row-clear (start c .pre .0) (c .clearance .result) (c .clearance .ensures)
 
 ahead-of-requires : tie.Need-ahead-of-requires
-ahead-of-requires c κs = goes-row (start (c .before .before) .pre .0) _ (cleared (c .before .before))
+ahead-of-requires c κs = goes-row (start (c .before .before) .pre .0) _ _ (cleared (c .before .before)) (omega arith)
+
+ahead-of-requires-2 : tie.Need-ahead-of-requires-2
+ahead-of-requires-2 c κs = let a = c .before .before .before in goes-row (start a .pre .0) _ _ (cleared a) (omega arith)
 
 -- where control stands after the clearance was read
-abbrev seen : tie.After-ahead-of → tie.After-clearance
-seen c = c .before .before .before
+abbrev seen : tie.After-ahead-of2 → tie.After-clearance
+seen c = c .before .before .before .before
 
 -- where the clearance ends is a cell
-in-floor : (c : tie.After-ahead-of) → (c .ahead-of .result .x < start (seen c) .args .w) × (c .ahead-of .result .y < start (seen c) .args .h)
-in-floor c = end-in (start (seen c) .pre .0) _ _ _ (cleared (seen c)) (c .ahead-of .ensures)
+in-floor : (c : tie.After-ahead-of2) →
+    (c .before .ahead-of .result .x < start (seen c) .args .w) × (c .before .ahead-of .result .y < start (seen c) .args .h)
+in-floor c = end-in (start (seen c) .pre .0) _ _ _ (cleared (seen c)) (c .before .ahead-of .ensures)
 
-corner-at-requires : tie.Need-corner-at-requires
-corner-at-requires c κs = (start (seen c) .pre .0 .floor .sized, in-floor c)
+ends-on-corner-requires : tie.Need-ends-on-corner-requires
+ends-on-corner-requires c κs =
+    let new = start (seen c) .pre .0 in
+    let there = c .before .ahead-of .ensures in (
+      known new,
+      (
+        end-next new _ _ _ _ _ (cleared (seen c)) (c .before .before .if2 .taken) (c .ahead-of2 .ensures) there,
+        row-ends new _ _ _ (cleared (seen c)) there,
+      ),
+    )
 
 named-requires : tie.Need-named-requires
 named-requires c κs =
@@ -44,16 +56,17 @@ returns c =
     let p = c .before .before in
     let e = p .before in
     let a = seen e in
-    read-turn (start a .pre .0) (start a .pre .1) _ (cleared a) (e .before .before .if1 .taken) _ _ (e .ahead-of .ensures)
-    _ (p .corner-at .ensures) _ (e .before .if2 .taken) (c .before .if3 .taken) (c .named .ensures)
+    let t = e .before .before in
+    read-turn (start a .pre .0) (start a .pre .1) _ (cleared a) (t .before .if1 .taken) _ _ (e .before .ahead-of .ensures)
+    _ (p .ends-on-corner .ensures) _ (t .if2 .taken) (c .before .if3 .taken) (c .named .ensures)
 
 returns-2 : tie.Need-returns-2
 returns-2 c =
     let p = c .before in
     let e = p .before in
     let a = seen e in
-    read-wall (start a .pre .0) (start a .pre .1) _ (cleared a) (e .before .before .if1 .taken) _ _ (e .ahead-of .ensures)
-    _ (p .corner-at .ensures) (c .if3 .left)
+    read-wall (start a .pre .0) (start a .pre .1) _ (cleared a) (e .before .before .before .if1 .taken) _ _ (e .before .ahead-of .ensures)
+    _ (p .ends-on-corner .ensures) (c .if3 .left)
 
 returns-3 : tie.Need-returns-3
 returns-3 c =
@@ -70,7 +83,9 @@ row-end-spec =
     (search needs)
     clearance-requires
     ahead-of-requires
-    corner-at-requires
+    (search needs)
+    ahead-of-requires-2
+    ends-on-corner-requires
     named-requires
     (search needs)
     returns
