@@ -29,6 +29,13 @@ module _ {w h : ℕ} {words : List ℕ} {p : Lists} {start goal : ℕ} {𝓒 : C
       let c = ch .width in
       omega arith
 
+  -- and it has at most 16,384 cells
+  few-cells : (i : ℕ) → cell 𝓒 i < 16384
+  few-cells i =
+      let a = cell-place ch i .inside in
+      let b = ch .floor .few-cells in
+      omega arith
+
   -- a neighbour stands at an index of a corner
   known : (j : ℕ) → j < length (𝓒 .neighbours) → indexOf (𝓒 .corners) (getD (𝓒 .neighbours) j 0) < 𝓒 .trip .k
   known j l =
@@ -63,6 +70,7 @@ module _ {w h : ℕ} {words : List ℕ} {p : Lists} {start goal : ℕ} {𝓒 : C
     some-width = let a = ch .floor .some-width in let c = ch .width in omega arith;
     width = let a = ch .floor .sized .wide in let c = ch .width in omega arith;
     cells = λ i l. few-rows i;
+    small = λ i l. few-cells i;
     from = ⊎-elim (λ t. let l = from-known ch t .0 in omega arith) (λ f. let e = ch .from-other f in omega arith) (true-or-false (cornerCell w h words start));
     to = ⊎-elim (λ t. let l = to-known ch t .0 in omega arith) (λ f. let e = ch .to-other f in omega arith) (true-or-false (cornerCell w h words goal));
     start-new = λ e i l q. corner-no-start ch i l (start-own ch e) (cell-corner ch i l ∙ sym (ap (λ (C : List ℕ). getD C i 0) (ch .corners)) ∙ q ∙ ch .start-cell);

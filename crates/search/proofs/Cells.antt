@@ -7,11 +7,12 @@ use native.Mathlib.Nat.{le-refl, le-of-suc-le-suc, mod-lt, div-add-mod', div-lt-
 use native.Mathlib.Omega.{arith}
 use native.Mathlib.Decide.{ℕ-discrete, decLt}
 use borrow.Author.Tests.{eq-eqb, ne-eqb, lt-ltb, le-ltb}
-use lib.ListN.{length, getD}
+use lib.ListN.{length, getD, set, length-set}
+use lib.Seq.{getD-set-same, getD-set-other}
 use Rattle.lengths.specs.Lengths.{gap, octileOf}
 use Rattle.lengths.specs.Laws.{weight}
 use Rattle.search.specs.declared.Trip.{Trip}
-use Rattle.search.specs.Places.{indexOf, Ascending, Bound, Gain, cellOf, apart, TwoCells}
+use Rattle.search.specs.Places.{indexOf, Ascending, Bound, Gain, Indexed, cellOf, apart, TwoCells}
 
 -- Where a cell first stands is its index.
 pub index-first : (C : List ℕ) (cell i : ℕ) → i < length C → getD C i 0 ≡ cell → ((j : ℕ) → j < i → getD C j 0 ≡ cell → ⊥) → indexOf C cell ≡ i
@@ -102,10 +103,6 @@ module _ (C : List ℕ) (up : Ascending C) where
       go (no l) (yes m) = absurd (omega (arith, up j i m hi))
       go (no l) (no m) = omega arith
 
-  -- The index of a cell that stands there.
-  pub index-of-entry : (i : ℕ) → i < length C → indexOf C (getD C i 0) ≡ i
-  index-of-entry i h = index-first C (getD C i 0) i h refl (λ j l e. omega (arith, up j i l h))
-
   module _ (cell at : ℕ) (b : Bound C cell at) where
     -- A search by halves has come to the cell: this is its index.
     pub bound-found : at < length C → getD C at 0 ≡ cell → at ≡ indexOf C cell
@@ -159,6 +156,34 @@ module _ (C : List ℕ) (up : Ascending C) where
         go : Dec (c < x) → Ends C cell (lo + r) (lo + r + (len - half))
         go (yes l) = rw (g .less l) (ends-up (omega arith))
         go (no m) = let q : lo + r ≡ lo = omega (arith, g .other (omega arith)) in rw q (ends-down (omega arith))
+
+-- ---- a table of indexes
+-- The entries of the corners below the i-th are written.
+pub record Indexing (C : List ℕ) (Q₀ : List ℕ) (i : ℕ) (Q : List ℕ) : Type 0 where
+  pub high : i ≤ length C
+  pub sized : length Q ≡ length Q₀
+  pub index : (j : ℕ) → j < i → getD Q (getD C j 0) 0 ≡ j
+
+-- At first none is.
+pub indexing-first : (C Q : List ℕ) → Indexing C Q 0 Q
+indexing-first C Q = record { high = omega arith; sized = refl; index = λ j h. absurd (omega arith) }
+
+-- One more is written, where no other has its cell.
+pub indexing-more :
+    {C Q₀ Q : List ℕ} {i cell : ℕ} → Ascending C → Indexing C Q₀ i Q → i < length C → cell ≡ getD C i 0 → cell < length Q → Indexing C Q₀ (i + 1) (set Q cell i)
+indexing-more {C} {Q₀} {Q} {i} {cell} up x h is room = record {
+  high = omega arith;
+  sized = length-set Q cell i ∙ x .sized;
+  index = λ j l. go j l (ℕ-discrete j i);
+}
+  where
+    go : (j : ℕ) → j < i + 1 → Dec (j ≡ i) → getD (set Q cell i) (getD C j 0) 0 ≡ j
+    go j l (yes q) = rw (q, ← is) (getD-set-same Q cell i 0 room)
+    go j l (no m) = getD-set-other Q cell (getD C j 0) i 0 (λ e. omega (arith, is, up j i (omega arith) h)) ∙ x .index j (omega arith)
+
+-- After the last the table is whole.
+pub indexing-done : {C Q₀ Q : List ℕ} {i : ℕ} → 16384 ≤ length Q₀ → Indexing C Q₀ i Q → length C ≤ i → Indexed C Q
+indexing-done room x h = record { room = rw (x .sized) room; index = λ j l. x .index j (omega arith) }
 
 -- ---- the cells of places
 module _ (C : List ℕ) (t : Trip) where

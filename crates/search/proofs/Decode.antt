@@ -4,7 +4,7 @@ use mathlib.Core.Path.{_≡_, refl, sym, _∙_}
 use mathlib.Core.Bool.{Bool, true, false, true≢false}
 use mathlib.Core.List.{List}
 use mathlib.Core.Option.{some, none}
-use Prim.Native.Nat.{ℕ, _+_, _*_, _-_, _≤_, _<_}
+use Prim.Native.Nat.{ℕ, _+_, _*_, _-_, _%_, _≤_, _<_}
 use native.Mathlib.Omega.{arith}
 use native.Mathlib.Decide.{decLt}
 use borrow.Author.Tests.{ltb-true, lt-ltb, le-ltb}
@@ -14,15 +14,16 @@ use Rattle.settling.specs.Chains.{wholes}
 use Rattle.settling.specs.Labels.{WaitingAt}
 use Rattle.settling.proofs.Instances.{nearest-no-later}
 use Rattle.search.specs.declared.Trip.{Trip}
-use Rattle.search.specs.Columns.{columnOf, Label, Tree, Settled}
+use Rattle.search.specs.Columns.{columnOf, Label, Settled}
 use Rattle.search.specs.Places.{cellOf}
-use Rattle.search.specs.Chart.{Chart, chart, cell}
-use Rattle.search.specs.Tree.{waitsAt, Ahead, Right, ranks, leaves}
+use Rattle.search.specs.Chart.{chart, cell}
+use Rattle.search.specs.Keys.{keyOf, nobody}
+use Rattle.search.specs.Tree.{waitsAt, Right}
 use Rattle.search.specs.Search.{read, labels, labelsOf}
 use Rattle.search.specs.Offers.{First}
 use Rattle.search.proofs.Columns.{column-length}
-use Rattle.search.proofs.Bracket.{top-least, top-own}
-use Rattle.search.proofs.Ranks.{ahead-same, ahead-trans, own-leaves, leaf-waits, waits-leaf}
+use Rattle.search.proofs.Keys.{key-place, key-some, key-order, top-least, top-leaf}
+use Rattle.search.proofs.Trees.{leaf-waits, leaf-nobody}
 
 -- An entry above 0 is a label.
 pub read-some : (x : ℕ) → 0 < x → read x ≡ some (x - 1)
@@ -57,50 +58,68 @@ module _ (D F : List ℕ) where
       go (yes l) = l
       go (no n) = let z = List·getD-eq-default D 0 {n = v} (omega arith) in absurd (omega (arith, entry-waiting v q .0))
 
-  -- The order of entries is the order of labels.
-  pub ahead-no-later : (𝓒 : Chart) (u v e : ℕ) → 0 < getD D u 0 → getD D v 0 ≡ e + 1 → Ahead D (cell 𝓒) (u + 1) (v + 1) → (getD D u 0 - 1 ≤ e) × (e ≤ getD D u 0 - 1 → cell 𝓒 u ≤ cell 𝓒 v)
-  ahead-no-later 𝓒 u v e pos q a =
-      let sum : getD D u 0 ≤ getD D v 0 = rw (less u, less v) at (a .sum (omega arith)) in
-      let ties : getD D v 0 ≤ getD D u 0 → cell 𝓒 u ≤ cell 𝓒 v = rw (less u, less v) at (a .ties (omega arith)) in
-      (omega arith, λ h. ties (omega arith))
-    where
-      less : (x : ℕ) → x + 1 - 1 ≡ x
-      less x = omega arith
-
 -- The top of the tree is the place that waits foremost.
-module _ (C S E : List ℕ) (t : Trip) (W : List ℕ) (room : 6 * (t .k + 2) ≤ length W) (right : Right C t W) where
-  -- the three columns
+module _ (C S E : List ℕ) {t : Trip} {W T : List ℕ} (few : t .k ≤ 2048) (room : 6 * (t .k + 2) ≤ length W) (right : Right C t W T) where
+  -- the two columns
   abbrev D : List ℕ
   D = columnOf (t .k + 2) W Label
 
   abbrev F : List ℕ
   F = columnOf (t .k + 2) W Settled
 
-  abbrev T : List ℕ
-  T = columnOf (t .k + 2) W Tree
-
-  -- The top of the tree comes no later than any that waits.
-  foremost-top : (v e : ℕ) → WaitingAt (labelsOf (t .k + 2) W) v e → (Ahead D (cellOf C t) (getD T 1 0) (v + 1)) × (getD D v 0 ≡ e + 1)
-  foremost-top v e w =
+  -- One that waits has its key in the tree, and the top holds no more.
+  waiting-key :
+      (v e : ℕ) → WaitingAt (labelsOf (t .k + 2) W) v e →
+      (v < t .k + 2) × (getD D v 0 ≡ e + 1) × (getD T (t .k + 2 + v) 0 ≡ keyOf (getD D v 0) (cellOf C t v) v) × (getD T 1 0 ≤ keyOf (getD D v 0) (cellOf C t v) v)
+  waiting-key v e w =
       let x = waiting-entry D F v e w in
       let h : v < t .k + 2 = rw (column-length (t .k + 2) W Label (omega arith) room) at (waits-inside D F v (x .0)) in
-      (rw (leaf-waits D F v (x .0)) at (top-least (ranks C t W) (leaves C t W) (t .k + 2) T (ahead-same _ _) (ahead-trans _ _) (right .won) (omega arith) v h), x .1)
+      let q : getD T (t .k + 2 + v) 0 ≡ keyOf (getD D v 0) (cellOf C t v) v = right .leaf v h ∙ leaf-waits D F (cellOf C t) v (x .0) in
+      (h, x .1, q, rw q at (top-least (right .keyed) v h))
 
-  -- So it is the foremost, or nobody where none waits.
-  pub first-of : First (chart C S E t W) W (getD (columnOf (t .k + 2) W Tree) 1 0)
-  first-of = record {
-    inside = right .won 1 (omega arith) (omega arith) .fits;
-    none = λ z v e w. absurd (omega (arith, foremost-top v e w .0 .some (omega arith)));
-    some = λ pos.
-        let u = getD T 1 0 - 1 in
-        let q : getD T 1 0 ≡ u + 1 = omega arith in
-        let own = top-own (ranks C t W) (leaves C t W) (own-leaves _ _) (t .k + 2) T (right .won) u (omega arith) q in
-        let x = entry-waiting D F u (waits-leaf D F u own) in
-        record {
-          waits = x .1;
-          first = λ v e w.
-              let f = foremost-top v e w in
-              nearest-no-later wholes (cell (chart C S E t W)) (getD D u 0 - 1) e u v .1
-              (ahead-no-later D F (chart C S E t W) u v e (x .0) (f .1) (rw q at (f .0)));
-        };
+  -- Where the top holds nobody, none waits: no node holds more than nobody.
+  pub first-none : ((i : ℕ) → getD T i 0 ≤ nobody) → getD T 1 0 ≡ nobody → First (chart C S E t W) W 0
+  first-none fits q = record {
+    inside = omega arith;
+    none = λ z v e w.
+        let x = waiting-key v e w in
+        key-some (getD D v 0) (cellOf C t v) v (omega (arith, x .0)) (omega (arith, fits (t .k + 2 + v), x .2, x .3));
+    some = λ pos. absurd (omega arith);
   }
+
+  -- A leaf that does not hold nobody holds the key of its place, which waits.
+  leaf-key : (p : ℕ) → p < t .k + 2 → (getD T (t .k + 2 + p) 0 ≡ nobody → ⊥) → (waitsAt D F p ≡ true) × (getD T (t .k + 2 + p) 0 ≡ keyOf (getD D p 0) (cellOf C t p) p)
+  leaf-key p h held = go (waitsAt D F p) refl
+    where
+      go : (b : Bool) → waitsAt D F p ≡ b → (waitsAt D F p ≡ true) × (getD T (t .k + 2 + p) 0 ≡ keyOf (getD D p 0) (cellOf C t p) p)
+      go true e = (e, right .leaf p h ∙ leaf-waits D F (cellOf C t) p e)
+      go false e = absurd (held (right .leaf p h ∙ leaf-nobody D F (cellOf C t) p e))
+
+  -- The place whose key is at the top is the foremost.
+  foremost-of :
+      (p : ℕ) → p < t .k + 2 → waitsAt D F p ≡ true → getD T 1 0 ≡ keyOf (getD D p 0) (cellOf C t p) p → First (chart C S E t W) W (p + 1)
+  foremost-of p h w q = record {
+    inside = omega arith;
+    none = λ z. absurd (omega arith);
+    some = λ pos. let e : p + 1 - 1 ≡ p = omega arith in rw e
+        (record {
+          waits = x .1;
+          first = λ v e w′.
+              let y = waiting-key v e w′ in
+              let o = key-order (getD D p 0) (cellOf C t p) p (getD D v 0) (cellOf C t v) v (right .small p h) (omega arith) (right .small v (y .0)) (omega (arith, y .0)) (rw q at (y .3)) in
+              nearest-no-later wholes (cell (chart C S E t W)) (getD D p 0 - 1) e p v .1
+              (omega (arith, o .0, y .1, x .0), λ l. o .1 (omega (arith, y .1, x .0)));
+        });
+  }
+    where
+      x : (0 < getD D p 0) × WaitingAt (labelsOf (t .k + 2) W) p (getD D p 0 - 1)
+      x = entry-waiting D F p w
+
+  -- Where it holds a key, the last twelve bits are the foremost place.
+  pub first-some : (getD T 1 0 ≡ nobody → ⊥) → First (chart C S E t W) W (getD T 1 0 % 4096 + 1)
+  first-some held =
+      let top = top-leaf (right .keyed) (omega arith) in
+      let x = leaf-key (top .0) (top .1) (λ q. held (sym (top .2) ∙ q)) in
+      let q : getD T 1 0 ≡ keyOf (getD D (top .0) 0) (cellOf C t (top .0)) (top .0) = sym (top .2) ∙ x .1 in
+      let place : getD T 1 0 % 4096 ≡ top .0 = rw q (key-place (getD D (top .0) 0) (cellOf C t (top .0)) (top .0) (omega (arith, top .1))) in
+      rw place (foremost-of (top .0) (top .1) (x .0) q)

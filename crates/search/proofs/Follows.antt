@@ -1,24 +1,24 @@
--- Links followed one by one, and a place settled.
+-- Links followed one by one, those to neighbours by the table, and a place settled.
 -- Assumes nothing.
-use mathlib.Core.Path.{_≡_, refl, sym, _∙_}
-use mathlib.Core.Bool.{Bool, true, false, cond}
+use mathlib.Core.Path.{_≡_, refl, sym, _∙_, ap}
 use mathlib.Core.List.{List}
 use Prim.Native.Nat.{ℕ, zero, suc, _+_, _*_, _-_, _≤_, _<_}
 use native.Mathlib.Numerals.{add-one}
 use native.Mathlib.Omega.{arith}
-use lib.Dec.{ltb}
-use lib.ListN.{length, getD, set}
+use lib.ListN.{length, getD}
 use Rattle.search.specs.declared.Trip.{Trip}
-use Rattle.search.specs.Columns.{columnOf, Label, Tree, Settled, Left}
-use Rattle.search.specs.Chart.{chart, linkAt, linkCount}
-use Rattle.search.specs.Tree.{Better, nodeOf, ranks, leaves, leafOf, Room, Right}
+use Rattle.search.specs.Columns.{columnOf, Label, Settled, Left}
+use Rattle.search.specs.Places.{indexOf, Indexed, cellOf, apart, TwoCells}
+use Rattle.search.specs.Chart.{chart, arcsOf, linkAt, linkCount}
+use Rattle.search.specs.Keys.{nobody}
+use Rattle.search.specs.Tree.{Small, Room, Right}
 use Rattle.search.specs.Search.{limit, labelsOf, Ready, Near, Settling, Blank}
 use Rattle.search.specs.Offers.{Offer, Offered, Follow, Followed, Marked, First}
 use Rattle.search.proofs.Columns.{column-length, left-same, left-trans}
-use Rattle.search.specs.Places.{cellOf, apart}
 use Rattle.search.proofs.Decode.{some-read}
-use Rattle.search.proofs.Links.{link-fits}
-use Rattle.search.proofs.Ranks.{ahead-same, better-left}
+use Rattle.search.proofs.Cells.{index-at, cell-corner}
+use Rattle.search.proofs.Links.{link-fits, link-corner, corner-arc, count-corner, arc-inside, two-cells}
+use Rattle.search.proofs.Trees.{leaf-nobody, waits-blank}
 use Rattle.search.proofs.Steps.{offered-none, offered-skip, offered-more, step-of}
 
 -- What is left as it was holds the same chart.
@@ -29,9 +29,15 @@ chart-same C S E t l = rw (l .by-start, l .by-goal)
 pub ready-kept : {C S E : List ℕ} {t : Trip} {W W′ : List ℕ} → Ready C S E t W → Left (t .k + 2) W W′ → Ready C S E t W′
 ready-kept r l = record { fair = rw (l .by-start, l .by-goal) (r .fair); room = rw (l .sized) (r .room) }
 
--- What is ready has room for the tree.
+-- What is ready has its corners, and room for the columns.
 pub ready-room : {C S E : List ℕ} {t : Trip} {W : List ℕ} → Ready C S E t W → Room C t W
 ready-room r = record { corners = r .fair .corners; few = r .fair .few; room = r .room }
+
+-- The cells of corners are below 16,384.
+pub corner-small : {C S E : List ℕ} {t : Trip} {W : List ℕ} → Ready C S E t W → (i : ℕ) → i < length C → getD C i 0 < 16384
+corner-small {C} {S} {E} {t} r i h =
+    let low : i < t .k = omega (arith, r .fair .corners) in
+    omega (arith, cell-corner C t i low, r .fair .small i (omega arith))
 
 -- One link followed: it leads to a place, which has its offer, or nowhere.
 module _ {C S E : List ℕ} {t : Trip} {W : List ℕ} (u j : ℕ) {r : ℕ} (ready : Ready C S E t W) (there : j < linkCount (chart C S E t W) u) (is : r ≡ linkAt (chart C S E t W) u j) where
@@ -41,96 +47,151 @@ module _ {C S E : List ℕ} {t : Trip} {W : List ℕ} (u j : ℕ) {r : ℕ} (rea
 
   -- It leads to a place, and that place has its offer.
   pub follow-some :
-      {W′ : List ℕ} {d a b far : ℕ} → (r ≡ 0 → ⊥) → a ≡ cellOf C t u → b ≡ cellOf C t (r - 1) → far ≡ apart (t .w) a b → Offer C t W (r - 1) (d + far) W′ →
-      Follow C S E t W u d j W′
-  follow-some {W′} n qa qb qf o = record {
+      {T W′ T′ : List ℕ} {d a b far : ℕ} → (r ≡ 0 → ⊥) → a ≡ cellOf C t u → b ≡ cellOf C t (r - 1) → far ≡ apart (t .w) a b →
+      Offer C t W T (r - 1) (d + far) W′ T′ →
+      Follow C S E t W T u d j W′ T′
+  follow-some n qa qb qf o = record {
     some = λ v e. let z : r - 1 ≡ v = omega arith in rw (qf, qa, qb, z) at o;
     none = λ z. absurd (n (is ∙ z));
     inside = link-fits (chart C S E t W) (ready .fair) u j there;
   }
 
   -- It leads nowhere, and nothing changes.
-  pub follow-none : {d : ℕ} → r ≡ 0 → Follow C S E t W u d j W
+  pub follow-none : {T : List ℕ} {d : ℕ} → r ≡ 0 → Follow C S E t W T u d j W T
   follow-none z = record {
     some = λ v e. absurd (omega arith);
-    none = λ q. refl;
+    none = λ q. (refl, refl);
     inside = link-fits (chart C S E t W) (ready .fair) u j there;
   }
 
--- Between the turns: the links below the j-th of `count` have been followed.
-pub record Following (C S E : List ℕ) (t : Trip) (W₀ : List ℕ) (u d count j : ℕ) (W : List ℕ) : Type 0 where
-  pub count-is : count ≡ linkCount (chart C S E t W₀) u
-  pub high : j ≤ count
-  pub ready : Ready C S E t W
-  pub followed : Followed C S E t W₀ u d j W
-
 -- At first no link has been followed.
-pub following-none :
-    {C S E : List ℕ} {t : Trip} {W : List ℕ} {u count : ℕ} (d : ℕ) → count ≡ linkCount (chart C S E t W) u → Ready C S E t W → Right C t W →
-    Following C S E t W u d count 0 W
-following-none d q ready right = record {
-  count-is = q;
-  high = omega arith;
-  ready = ready;
-  followed = record { offered = offered-none _ _ d _; settled = refl; left = left-same _ _; right = right };
-}
+pub followed-none : {C S E : List ℕ} {t : Trip} {W T : List ℕ} (u d : ℕ) → Right C t W T → Followed C S E t W T u d 0 W T
+followed-none u d right = record { offered = offered-none _ u d _; settled = refl; left = left-same _ _; right = right; tree = refl }
 
-module _ {C S E : List ℕ} {t : Trip} {W₀ : List ℕ} {u d count j : ℕ} {W : List ℕ} (f : Following C S E t W₀ u d count j W) where
-  -- One link more.
-  followed-more : {W′ : List ℕ} → 0 < d → Follow C S E t W u d j W′ → Followed C S E t W₀ u d (j + 1) W′
-  followed-more {W′} pos l = go (linkAt (chart C S E t W) u j) refl
+-- One link more.
+followed-more :
+    {C S E : List ℕ} {t : Trip} {W₀ T₀ W T W′ T′ : List ℕ} {u d j : ℕ} → Ready C S E t W → 0 < d → Followed C S E t W₀ T₀ u d j W T → Follow C S E t W T u d j W′ T′ →
+    Followed C S E t W₀ T₀ u d (j + 1) W′ T′
+followed-more {C} {S} {E} {t} {W₀} {T₀} {W} {T} {W′} {T′} {u} {d} {j} ready pos f l = go (linkAt (chart C S E t W) u j) refl
+  where
+    o : Offered (chart C S E t W) u d j (columnOf (t .k + 2) W₀ Label) (columnOf (t .k + 2) W Label)
+    o = rw (chart-same C S E t (f .left)) (f .offered)
+
+    back : (k : ℕ) (D : List ℕ) → Offered (chart C S E t W) u d k (columnOf (t .k + 2) W₀ Label) D → Offered (chart C S E t W₀) u d k (columnOf (t .k + 2) W₀ Label) D
+    back k D x = rw (← (chart-same C S E t (f .left))) x
+
+    go : (x : ℕ) → linkAt (chart C S E t W) u j ≡ x → Followed C S E t W₀ T₀ u d (j + 1) W′ T′
+    go zero q =
+        rw (l .none q .0, l .none q .1)
+        (record { offered = back (j + 1) _ (offered-skip _ _ _ _ _ _ o q); settled = f .settled; left = f .left; right = f .right; tree = f .tree })
+    go (suc v) q =
+        let e : linkAt (chart C S E t W) u j ≡ v + 1 = q ∙ sym (add-one v) in
+        let a = l .some v e in
+        let inside : v < length (columnOf (t .k + 2) W Label) = rw (column-length (t .k + 2) W Label (omega arith) (ready .room)) (omega (arith, l .inside)) in
+        record {
+          offered = rw (a .label) (back (j + 1) _ (offered-more (chart C S E t W) u d (columnOf (t .k + 2) W₀ Label) (columnOf (t .k + 2) W Label) j o v e inside pos));
+          settled = a .settled ∙ f .settled;
+          left = left-trans (f .left) (a .left);
+          right = a .right;
+          tree = a .tree ∙ f .tree;
+        }
+
+-- Between the turns of a loop that began at link i with W₁ and T₁: what was followed up to there is now followed up to link j.
+pub record Following (C S E : List ℕ) (t : Trip) (W₁ T₁ : List ℕ) (u d i j : ℕ) (W T : List ℕ) : Type 0 where
+  pub ready : Ready C S E t W
+  pub right : Right C t W T
+  pub sized : length W ≡ length W₁
+  pub tree : length T ≡ length T₁
+  pub followed : (W₀ T₀ : List ℕ) → Followed C S E t W₀ T₀ u d i W₁ T₁ → Followed C S E t W₀ T₀ u d j W T
+
+-- At first nothing has changed.
+pub following-first : {C S E : List ℕ} {t : Trip} {W T : List ℕ} {u d i : ℕ} → Ready C S E t W → Right C t W T → Following C S E t W T u d i i W T
+following-first ready right = record { ready = ready; right = right; sized = refl; tree = refl; followed = λ W₀ T₀ f. f }
+
+module _ {C S E : List ℕ} {t : Trip} {W₁ T₁ : List ℕ} {u d i j : ℕ} {W T : List ℕ} (f : Following C S E t W₁ T₁ u d i j W T) where
+  -- what one link more leaves as it was, and the tree
+  follow-kept : {W′ T′ : List ℕ} → Follow C S E t W T u d j W′ T′ → Left (t .k + 2) W W′ × Right C t W′ T′ × (length T′ ≡ length T)
+  follow-kept {W′} {T′} l = go (linkAt (chart C S E t W) u j) refl
     where
-      o : Offered (chart C S E t W) u d j (columnOf (t .k + 2) W₀ Label) (columnOf (t .k + 2) W Label)
-      o = rw (chart-same C S E t (f .followed .left)) (f .followed .offered)
-
-      back : (k : ℕ) (D : List ℕ) → Offered (chart C S E t W) u d k (columnOf (t .k + 2) W₀ Label) D → Offered (chart C S E t W₀) u d k (columnOf (t .k + 2) W₀ Label) D
-      back k D x = rw (← (chart-same C S E t (f .followed .left))) x
-
-      go : (x : ℕ) → linkAt (chart C S E t W) u j ≡ x → Followed C S E t W₀ u d (j + 1) W′
-      go zero q =
-          rw (l .none q)
-          (record { offered = back (j + 1) _ (offered-skip _ _ _ _ _ _ o q); settled = f .followed .settled; left = f .followed .left; right = f .followed .right })
-      go (suc v) q =
-          let e : linkAt (chart C S E t W) u j ≡ v + 1 = q ∙ sym (add-one v) in
-          let a = l .some v e in
-          let inside : v < length (columnOf (t .k + 2) W Label) = rw (column-length (t .k + 2) W Label (omega arith) (f .ready .room)) (omega (arith, l .inside)) in
-          record {
-            offered = rw (a .label) (back (j + 1) _ (offered-more (chart C S E t W) u d (columnOf (t .k + 2) W₀ Label) (columnOf (t .k + 2) W Label) j o v e inside pos));
-            settled = a .settled ∙ f .followed .settled;
-            left = left-trans (f .followed .left) (a .left);
-            right = a .right;
-          }
-
-  -- what one link more leaves as it was
-  follow-left : {W′ : List ℕ} → Follow C S E t W u d j W′ → Left (t .k + 2) W W′
-  follow-left {W′} l = go (linkAt (chart C S E t W) u j) refl
-    where
-      go : (x : ℕ) → linkAt (chart C S E t W) u j ≡ x → Left (t .k + 2) W W′
-      go zero q = rw (l .none q) (left-same _ _)
-      go (suc v) q = l .some v (q ∙ sym (add-one v)) .left
+      go : (x : ℕ) → linkAt (chart C S E t W) u j ≡ x → Left (t .k + 2) W W′ × Right C t W′ T′ × (length T′ ≡ length T)
+      go zero q = rw (l .none q .0, l .none q .1) (left-same _ _, f .right, refl)
+      go (suc v) q = let a = l .some v (q ∙ sym (add-one v)) in (a .left, a .right, a .tree)
 
   -- One turn more.
-  pub following-more : {W′ : List ℕ} → 0 < d → j < count → Follow C S E t W u d j W′ → Following C S E t W₀ u d count (j + 1) W′
-  following-more pos h l = record {
-    count-is = f .count-is;
-    high = omega arith;
-    ready = ready-kept (f .ready) (follow-left l);
-    followed = followed-more pos l;
-  }
+  pub following-more : {W′ T′ : List ℕ} → 0 < d → Follow C S E t W T u d j W′ T′ → Following C S E t W₁ T₁ u d i (j + 1) W′ T′
+  following-more pos l =
+      let k = follow-kept l in
+      record {
+        ready = ready-kept (f .ready) (k .0);
+        right = k .1;
+        sized = k .0 .sized ∙ f .sized;
+        tree = k .2 ∙ f .tree;
+        followed = λ W₀ T₀ g. followed-more (f .ready) pos (f .followed W₀ T₀ g) l;
+      }
 
-  -- After the last turn all links have been followed.
-  pub following-done : count ≤ j → Followed C S E t W₀ u d (linkCount (chart C S E t W₀) u) W
-  following-done h = let q : j ≡ linkCount (chart C S E t W₀) u = omega (arith, f .count-is, f .high) in rw q at (f .followed)
+-- ---- the neighbours of a corner
+-- A corner has no fewer links than neighbours.
+pub arcs-most : (C S E : List ℕ) (t : Trip) (W : List ℕ) (u : ℕ) → u < t .k → arcsOf S u ≤ linkCount (chart C S E t W) u
+arcs-most C S E t W u corner = omega (arith, count-corner (chart C S E t W) u corner)
+
+module _ {C S E : List ℕ} {t : Trip} {W Q : List ℕ} (u j : ℕ) (ready : Ready C S E t W) (indexed : Indexed C Q) (corner : u < t .k) (there : j < arcsOf S u) where
+  -- the cell that the arc leads to
+  abbrev to : ℕ
+  to = getD E (getD S u 0 + j) 0
+
+  -- The arc stands in the list of neighbours.
+  pub arc-within : getD S u 0 + j < length E
+  arc-within = let a = arc-inside (chart C S E t W) (ready .fair) u j corner there in omega (arith, a .0, a .1)
+
+  -- it leads to a corner
+  known : indexOf C to < t .k
+  known = ready .fair .known (getD S u 0 + j) arc-within
+
+  -- whose cell it is
+  is-cell : cellOf C t (indexOf C to) ≡ to
+  is-cell = cell-corner C t (indexOf C to) known ∙ index-at C to (rw (ready .fair .corners) known)
+
+  -- Its cell has an entry in the table.
+  pub arc-entry : to < length Q
+  arc-entry = omega (arith, is-cell, ready .fair .small (indexOf C to) (omega (arith, known)), indexed .room)
+
+  -- That entry is the corner's index.
+  arc-index : getD Q to 0 ≡ indexOf C to
+  arc-index =
+      let q = index-at C to (rw (ready .fair .corners) known) in
+      rw q at (indexed .index (indexOf C to) (rw (ready .fair .corners) known))
+
+  -- The entry is a place.
+  pub arc-place : getD Q to 0 < t .k + 2
+  arc-place = omega (arith, arc-index, known)
+
+  -- Both cells lie on the floor.
+  pub arc-cells : TwoCells (t .w) (cellOf C t u) to
+  arc-cells = rw is-cell at (two-cells (chart C S E t W) (ready .fair) u (indexOf C to) (omega arith) (omega (arith, known)))
+
+  -- The arc is link j of u.
+  arc-link : indexOf C to + 1 ≡ linkAt (chart C S E t W) u j
+  arc-link = sym (link-corner (chart C S E t W) u j corner ∙ corner-arc (chart C S E t W) u j there)
+
+  -- The arc's offer is made: the link has been followed.
+  pub arc-followed :
+      {T W′ T′ : List ℕ} {d a b v far : ℕ} → a ≡ cellOf C t u → b ≡ to → v ≡ getD Q b 0 → far ≡ apart (t .w) a b → Offer C t W T v (d + far) W′ T′ →
+      Follow C S E t W T u d j W′ T′
+  arc-followed qa qb qv qf o =
+      let z : indexOf C to + 1 - 1 ≡ indexOf C to = omega arith in
+      let v-is = qv ∙ ap (λ (x : ℕ). getD Q x 0) qb ∙ arc-index ∙ sym z in
+      follow-some u j ready (omega (arith, there, arcs-most C S E t W u corner)) arc-link (λ q. omega arith) qa (qb ∙ sym is-cell ∙ ap (cellOf C t) (sym z)) qf (rw v-is at o)
 
 -- ---- a place is settled
 -- Nobody waits.
-pub settling-none : {C S E : List ℕ} {t : Trip} {W : List ℕ} {r : ℕ} → First (chart C S E t W) W r → r ≡ 0 → Right C t W → Settling C S E t W 0 W
+pub settling-none : {C S E : List ℕ} {t : Trip} {W T : List ℕ} {r : ℕ} → First (chart C S E t W) W r → r ≡ 0 → Right C t W T → Settling C S E t W T 0 W T
 settling-none f z right = record {
   inside = omega arith;
   none = λ q. (refl, f .none z);
   some = λ h. absurd (omega arith);
   left = left-same _ _;
   right = right;
+  tree = refl;
 }
 
 module _ {C S E : List ℕ} {t : Trip} {W : List ℕ} {r : ℕ} (f : First (chart C S E t W) W r) (pos : 0 < r) where
@@ -144,15 +205,16 @@ module _ {C S E : List ℕ} {t : Trip} {W : List ℕ} {r : ℕ} (f : First (char
 
   -- It is marked, and all its links are followed: a step.
   pub settling-some :
-      Ready C S E t W → {W′ W″ : List ℕ} → Marked C t W (r - 1) W′ →
-      Followed C S E t W′ (r - 1) (getD (columnOf (t .k + 2) W Label) (r - 1) 0) (linkCount (chart C S E t W′) (r - 1)) W″ →
-      Settling C S E t W r W″
-  settling-some ready {W′} {W″} m l = record {
+      Ready C S E t W → {T W′ T′ W″ T″ : List ℕ} → Marked t W T (r - 1) W′ T′ →
+      Followed C S E t W′ T′ (r - 1) (getD (columnOf (t .k + 2) W Label) (r - 1) 0) (linkCount (chart C S E t W′) (r - 1)) W″ T″ →
+      Settling C S E t W T r W″ T″
+  settling-some ready {T} {W′} {T′} {W″} m l = record {
     inside = f .inside;
     none = λ z. absurd (omega arith);
     some = λ h. (_, step-of (chart C S E t W) (columnOf (t .k + 2) W Label) (columnOf (t .k + 2) W Settled) (columnOf (t .k + 2) W″ Label) (columnOf (t .k + 2) W″ Settled) (r - 1) (f .some pos) first-entry offered (l .settled ∙ m .settled) inside);
     left = left-trans (m .left) (l .left);
     right = l .right;
+    tree = l .tree ∙ m .tree;
   }
     where
       offered :
@@ -163,19 +225,17 @@ module _ {C S E : List ℕ} {t : Trip} {W : List ℕ} {r : ℕ} (f : First (char
       inside = rw (column-length (t .k + 2) W Settled (omega arith) (ready .room)) (omega (arith, f .inside))
 
 -- ---- the beginning
--- Of nothing labelled every node holds nobody.
-blank-node : (C : List ℕ) (t : Trip) (W : List ℕ) → Blank (t .k + 2) W → (c : ℕ) → nodeOf (leaves C t W) (t .k + 2) (columnOf (t .k + 2) W Tree) c ≡ 0
-unfolding nodeOf leafOf
-blank-node C t W b c = rw (b .tree c, b .settled (c - (t .k + 2)), b .label (c - (t .k + 2))) (either (ltb c (t .k + 2)))
-  where
-    either : (x : Bool) → _≡_ {A = ℕ} (cond x 0 0) 0
-    either true = refl
-    either false = refl
-
--- So the empty tree is right.
-pub blank-right : {C : List ℕ} {t : Trip} {W : List ℕ} → Blank (t .k + 2) W → Right C t W
-blank-right {C} {t} {W} b = record { won = λ i pos h. record { fits = omega (arith, b .tree i); better = better i } }
-  where
-    better :
-        (i : ℕ) → Better (ranks C t W) (nodeOf (leaves C t W) (t .k + 2) (columnOf (t .k + 2) W Tree) (2 * i)) (nodeOf (leaves C t W) (t .k + 2) (columnOf (t .k + 2) W Tree) (2 * i + 1)) (getD (columnOf (t .k + 2) W Tree) i 0)
-    better i = rw (blank-node C t W b (2 * i), blank-node C t W b (2 * i + 1), b .tree i) (better-left _ _ 0 0 (ahead-same _ _ 0))
+-- A tree that holds nobody is right where nothing is labelled.
+pub blank-right :
+    {C : List ℕ} {t : Trip} {W T : List ℕ} → Small C t → t .k + 2 + (t .k + 2) ≤ length T → ((i : ℕ) → i < length T → getD T i 0 ≡ nobody) → Blank (t .k + 2) W →
+    Right C t W T
+blank-right {C} {t} {W} {T} small room bare b = record {
+  small = small;
+  keyed = record {
+    room = room;
+    least = λ i pos h. omega (arith, bare i (omega arith), bare (2 * i) (omega arith), bare (2 * i + 1) (omega arith));
+  };
+  leaf = λ p h.
+      bare (t .k + 2 + p) (omega arith) ∙
+      sym (leaf-nobody (columnOf (t .k + 2) W Label) (columnOf (t .k + 2) W Settled) (cellOf C t) p (waits-blank (columnOf (t .k + 2) W Label) (columnOf (t .k + 2) W Settled) (cellOf C t) p (omega (arith, b .settled p)) (omega (arith, b .label p))));
+}

@@ -1,11 +1,11 @@
 -- The laws behind the functions' proofs, which callers' proofs may cite.
 pub mod Columns
 pub mod Cells
-pub mod Bracket
-pub mod Ranks
+pub mod Keys
 pub mod Trees
 pub mod Links
 pub mod Decode
 pub mod Steps
+pub mod Offering
 pub mod Follows
 pub mod Running

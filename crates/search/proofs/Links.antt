@@ -55,7 +55,12 @@ module _ (𝓒 : Chart) where
   unfolding linkAt
   link-goal u j h = rw (le-ltb u (𝓒 .trip .k) (omega arith), ne-eqb u (𝓒 .trip .k) (λ q. omega arith))
 
-  -- How many there are to look at.
+  -- How many there are of a corner to look at.
+  pub count-corner : (u : ℕ) → u < 𝓒 .trip .k → linkCount 𝓒 u ≡ arcs 𝓒 u + 2
+  unfolding countOf
+  count-corner u h = rw (lt-ltb u (𝓒 .trip .k) h)
+
+  -- How many there are of start and goal.
   pub count-end : (u : ℕ) → 𝓒 .trip .k ≤ u → linkCount 𝓒 u ≡ 𝓒 .trip .k
   unfolding countOf
   count-end u h = rw (le-ltb u (𝓒 .trip .k) h)

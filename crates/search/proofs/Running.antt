@@ -1,6 +1,6 @@
 -- What holds between the turns of a run, and what it comes to.
 -- Assumes nothing.
-use mathlib.Core.Path.{_≡_, sym, _∙_, ap}
+use mathlib.Core.Path.{_≡_, refl, sym, _∙_, ap}
 use mathlib.Core.Logic.{_⊎_, ⊎-elim}
 use mathlib.Core.Bool.{true, false, true≢false}
 use mathlib.Core.List.{List}
@@ -56,10 +56,11 @@ module _ (𝓒 : Chart) (fair : Fair 𝓒) (𝓢 : Labels wholes) (ok : Sound (n
   pub near-of : Bounded 𝓒 → Near 𝓒 𝓢
   near-of bounded = record { near = λ u d f. bounded u d (foremost-shortest u d f) }
 
--- After m turns: W has come from W₀.
-pub record Running (C S E : List ℕ) (t : Trip) (W₀ : List ℕ) (budget : ℕ) (W : List ℕ) (m : ℕ) : Type 0 where
+-- After m turns: W and the tree T have come from W₀ and T₀.
+pub record Running (C S E : List ℕ) (t : Trip) (W₀ T₀ : List ℕ) (budget : ℕ) (W T : List ℕ) (m : ℕ) : Type 0 where
   pub left : Left (t .k + 2) W₀ W
-  pub right : Right C t W
+  pub right : Right C t W T
+  pub tree : length T ≡ length T₀
   pub sound : Sound (net (chart C S E t W₀)) (order (chart C S E t W₀)) (labelsOf (t .k + 2) W)
   pub none-after : NoneAfter (net (chart C S E t W₀)) (order (chart C S E t W₀)) (labelsOf (t .k + 2) W) (t .to)
   pub counted : Counts (λ v. labelsOf (t .k + 2) W .settled v ≡ true) (below (t .k + 2)) m
@@ -71,10 +72,11 @@ module _ {C S E : List ℕ} {t : Trip} {W₀ : List ℕ} (ready : Ready C S E t 
   𝓒 = chart C S E t W₀
 
   -- Once the start has its label, the search has begun.
-  pub running-first : {W : List ℕ} (budget : ℕ) → Blank (t .k + 2) W₀ → Offer C t W₀ (t .from) 1 W → Running C S E t W₀ budget W 0
-  running-first {W} budget blank o = record {
+  pub running-first : {T₀ W T : List ℕ} (budget : ℕ) → Blank (t .k + 2) W₀ → Offer C t W₀ T₀ (t .from) 1 W T → Running C S E t W₀ T₀ budget W T 0
+  running-first {T₀} {W} budget blank o = record {
     left = o .left;
     right = o .right;
+    tree = o .tree;
     sound = first-sound (net 𝓒) (order 𝓒) (consistent 𝓒 (ready .fair)) (labelsOf (t .k + 2) W) first;
     none-after = first-none-after (net 𝓒) (order 𝓒) (consistent 𝓒 (ready .fair)) (labelsOf (t .k + 2) W) (t .to) first;
     counted = counts-none (λ x e. true≢false (sym e ∙ first .unsettled x)) _;
@@ -103,7 +105,7 @@ module _ {C S E : List ℕ} {t : Trip} {W₀ : List ℕ} (ready : Ready C S E t 
         unsettled = λ v. rw (o .settled, blank .settled v);
       }
 
-  module _ {budget : ℕ} {W : List ℕ} {m : ℕ} (run : Running C S E t W₀ budget W m) where
+  module _ {T₀ : List ℕ} {budget : ℕ} {W T : List ℕ} {m : ℕ} (run : Running C S E t W₀ T₀ budget W T m) where
     -- A run stays ready.
     pub running-ready : Ready C S E t W
     running-ready = ready-kept ready (run .left)
@@ -114,11 +116,12 @@ module _ {C S E : List ℕ} {t : Trip} {W₀ : List ℕ} (ready : Ready C S E t 
 
     -- One place more is settled.
     pub running-step :
-        {W′ : List ℕ} {r : ℕ} → labelsOf (t .k + 2) W .settled (t .to) ≡ false → m < budget → 0 < r → Settling C S E t W r W′ →
-        Running C S E t W₀ budget W′ (m + 1)
-    running-step {W′} {r} open-goal h pos s = record {
+        {W′ T′ : List ℕ} {r : ℕ} → labelsOf (t .k + 2) W .settled (t .to) ≡ false → m < budget → 0 < r → Settling C S E t W T r W′ T′ →
+        Running C S E t W₀ T₀ budget W′ T′ (m + 1)
+    running-step {W′} {T′} {r} open-goal h pos s = record {
       left = left-trans (run .left) (s .left);
       right = s .right;
+      tree = s .tree ∙ run .tree;
       sound = step-sound (net 𝓒) (order 𝓒) con (labelsOf (t .k + 2) W) (labelsOf (t .k + 2) W′) (run .sound) (r - 1) (move .0) (move .1);
       none-after =
           none-after-unsettled (net 𝓒) (order 𝓒) con (labelsOf (t .k + 2) W) (labelsOf (t .k + 2) W′) (run .sound) (r - 1) (move .0) (move .1) (t .to)
@@ -188,10 +191,11 @@ module _ {C S E : List ℕ} {t : Trip} {W₀ : List ℕ} (ready : Ready C S E t 
 -- The loop begins after the start has its label: what holds of the work space then holds of the one at entry.
 module _ {C S E : List ℕ} {t : Trip} {W₀ W₁ : List ℕ} (begun : Left (t .k + 2) W₀ W₁) where
   -- The invariant over the work space with which the loop begins.
-  pub running-begun : {budget m : ℕ} → Running C S E t W₀ budget W₁ m → Running C S E t W₁ budget W₁ m
+  pub running-begun : {T₀ T₁ : List ℕ} {budget m : ℕ} → Running C S E t W₀ T₀ budget W₁ T₁ m → Running C S E t W₁ T₁ budget W₁ T₁ m
   running-begun r = record {
     left = left-same _ _;
     right = r .right;
+    tree = refl;
     sound = rw (chart-same C S E t begun) (r .sound);
     none-after = rw (chart-same C S E t begun) (r .none-after);
     counted = r .counted;

@@ -1,143 +1,146 @@
--- The tournament in the work space: how it is put right after a store, and what its top says.
+-- The tree of keys over the places of a trip: how it stays right after a store.
 -- Assumes nothing.
-use mathlib.Core.Path.{_≡_, refl, sym, _∙_, ap}
+use mathlib.Core.Path.{_≡_, sym, _∙_}
+use mathlib.Core.Bool.{true, false}
 use mathlib.Core.List.{List}
-use Prim.Native.Nat.{ℕ, _+_, _*_, _-_, _/_, _≤_, _<_}
+use Prim.Native.Nat.{ℕ, _+_, _*_, _≤_, _<_}
 use native.Mathlib.Omega.{arith}
+use native.Mathlib.Decide.{ℕ-discrete, decLt}
+use borrow.Author.Tests.{lt-ltb, le-ltb}
 use lib.ListN.{length, getD, set}
-use lib.Seq.{set-getD}
+use lib.Seq.{getD-set-same, getD-set-other}
 use Rattle.search.specs.declared.Trip.{Trip}
-use Rattle.search.specs.Columns.{columnOf, Label, Tree, Settled, Only, Put}
+use Rattle.search.specs.Columns.{columnOf, Label, Settled, Put}
 use Rattle.search.specs.Places.{cellOf}
-use Rattle.search.specs.Tree.{nodeOf, ranks, leaves, Room, Right, NearlyRight, Playable, Played, Raised}
-use Rattle.search.specs.Offers.{lowered, Offer, Marked}
-use Rattle.search.proofs.Columns.{column-length, only-left, only-trans, left-same, left-trans}
-use Rattle.search.proofs.Bracket.{node-fits, shaken-first, shaken-up, right-early, right-at-top}
-use Rattle.search.proofs.Ranks.{ahead-others, own-leaves, leaf-fits, leaf-label, leaf-settled}
+use Rattle.search.specs.Keys.{keyOf, nobody, Changed}
+use Rattle.search.specs.Tree.{waitsAt, leafOf, Right}
+use Rattle.search.proofs.Columns.{column-length}
+use Rattle.search.proofs.Keys.{key-lower}
+
+-- ---- leaves
+module _ (D F : List ℕ) (cell : ℕ → ℕ) where
+  -- The leaf of one that waits holds its key.
+  pub leaf-waits : (p : ℕ) → waitsAt D F p ≡ true → leafOf D F cell p ≡ keyOf (getD D p 0) (cell p) p
+  unfolding leafOf
+  leaf-waits p q = rw q
+
+  -- The leaf of one that does not holds nobody.
+  pub leaf-nobody : (p : ℕ) → waitsAt D F p ≡ false → leafOf D F cell p ≡ nobody
+  unfolding leafOf
+  leaf-nobody p q = rw q
+
+  -- A change of p's entry changes no other leaf.
+  leaf-label : (p e x : ℕ) → (x ≡ p → ⊥) → leafOf (set D p e) F cell x ≡ leafOf D F cell x
+  unfolding leafOf
+  leaf-label p e x n = rw (getD-set-other D p x e 0 n)
+
+  -- A change of p's flag changes no other leaf.
+  leaf-settled : (p e x : ℕ) → (x ≡ p → ⊥) → leafOf D (set F p e) cell x ≡ leafOf D F cell x
+  unfolding leafOf
+  leaf-settled p e x n = rw (getD-set-other F p x e 0 n)
+
+  -- One that is not settled and has an entry waits.
+  waits-open : (p : ℕ) → getD F p 0 ≤ 0 → 0 < getD D p 0 → waitsAt D F p ≡ true
+  waits-open p h l = rw (le-ltb 0 (getD F p 0) h) (lt-ltb 0 (getD D p 0) l)
+
+  -- One that is not settled and has no entry does not.
+  pub waits-blank : (p : ℕ) → getD F p 0 ≤ 0 → getD D p 0 ≤ 0 → waitsAt D F p ≡ false
+  waits-blank p h l = rw (le-ltb 0 (getD F p 0) h) (le-ltb 0 (getD D p 0) l)
+
+  -- One that is settled does not.
+  waits-settled : (p : ℕ) → 0 < getD F p 0 → waitsAt D F p ≡ false
+  waits-settled p h = rw (lt-ltb 0 (getD F p 0) h)
 
 module _ {C : List ℕ} {t : Trip} where
-  -- Room stays where the work space keeps its length.
-  pub room-kept : {W W′ : List ℕ} → Room C t W → length W′ ≡ length W → Room C t W′
-  room-kept r q = record { corners = r .corners; few = r .few; room = rw q (r .room) }
+  module _ {W T : List ℕ} (right : Right C t W T) where
+    -- A lower label gives a key that is no more than what the leaf holds.
+    pub key-fits :
+        (v best : ℕ) → v < t .k + 2 → getD (columnOf (t .k + 2) W Settled) v 0 ≤ 0 → (0 < getD (columnOf (t .k + 2) W Label) v 0 → best ≤ getD (columnOf (t .k + 2) W Label) v 0) →
+        keyOf best (cellOf C t v) v ≤ nobody →
+        keyOf best (cellOf C t v) v ≤ getD T (t .k + 2 + v) 0
+    key-fits v best h free less fits = go (decLt 0 (getD D v 0))
+      where
+        D : List ℕ
+        D = columnOf (t .k + 2) W Label
 
-  -- A node can be renewed: its children hold places or nobody.
-  pub playable : {W : List ℕ} {p x : ℕ} → Room C t W → NearlyRight C t W p x → (i : ℕ) → 0 < i → i < t .k + 2 → Playable C t W i
-  playable {W} r near i pos h = record {
-    room = r;
-    some = pos;
-    inner = h;
-    left = fit (2 * i) (omega arith) (omega arith);
-    right = fit (2 * i + 1) (omega arith) (omega arith);
-  }
-    where
-      fit : (c : ℕ) → 0 < c → c < t .k + 2 + (t .k + 2) → nodeOf (leaves C t W) (t .k + 2) (columnOf (t .k + 2) W Tree) c ≤ t .k + 2
-      fit c some l =
-          node-fits (leaves C t W) (t .k + 2) (columnOf (t .k + 2) W Tree) c (λ m. near .shaken .right c some m .0)
-          (leaf-fits (columnOf (t .k + 2) W Label) (columnOf (t .k + 2) W Settled) (t .k + 2)) l
+        F : List ℕ
+        F = columnOf (t .k + 2) W Settled
 
-  module _ {W W′ : List ℕ} where
-    -- A node put right on the way up.
-    pub nearly-up :
-        {p x winner : ℕ} → 1 < x → x < t .k + 2 + (t .k + 2) → Room C t W → NearlyRight C t W p x → Played C t W (x / 2) winner W′ → NearlyRight C t W′ p (x / 2)
-    nearly-up more l r near p = record {
-      shaken =
-          rw (p .put .only .others Label (λ q. omega arith), p .put .only .others Settled (λ q. omega arith), p .put .here)
-          (shaken-up (ranks C t W) (leaves C t W) (t .k + 2) (columnOf (t .k + 2) W Tree) (near .shaken) more l (column-length (t .k + 2) W Tree (omega arith) (r .room)) (p .fits) (p .better));
-    }
+        go : Dec (0 < getD D v 0) → keyOf best (cellOf C t v) v ≤ getD T (t .k + 2 + v) 0
+        go (yes l) = rw (right .leaf v h, leaf-waits D F (cellOf C t) v (waits-open D F (cellOf C t) v free l)) (key-lower best (getD D v 0) (cellOf C t v) v (less l))
+        go (no l) = rw (right .leaf v h, leaf-nobody D F (cellOf C t) v (waits-blank D F (cellOf C t) v free (omega arith))) fits
 
-    -- A node that holds who it held, and not p: the tree is right.
-    pub right-at-once :
-        {p x winner : ℕ} → 1 < x → x < t .k + 2 + (t .k + 2) → Room C t W → NearlyRight C t W p x → Played C t W (x / 2) winner W′ →
-        getD (columnOf (t .k + 2) W Tree) (x / 2) 0 ≡ winner →
-        (winner ≡ p + 1 → ⊥) →
-        Right C t W′
-    right-at-once more l r near p same other = record {
-      won =
-          rw (p .put .only .others Label (λ q. omega arith), p .put .only .others Settled (λ q. omega arith), p .put .here)
-          (right-early (ranks C t W) (leaves C t W) (t .k + 2) (columnOf (t .k + 2) W Tree) (near .shaken) more l (column-length (t .k + 2) W Tree (omega arith) (r .room)) (p .fits) (p .better) same other);
-    }
+    module _ {W′ : List ℕ} where
+      -- A new label of a place that is not settled, with its key in the tree.
+      pub right-label :
+          {v best : ℕ} {T′ : List ℕ} → 6 * (t .k + 2) ≤ length W → v < t .k + 2 → getD (columnOf (t .k + 2) W Settled) v 0 ≤ 0 → 0 < best →
+          Put (t .k + 2) W Label v best W′ →
+          Changed (t .k + 2) T v (keyOf best (cellOf C t v) v) T′ →
+          Right C t W′ T′
+      right-label {v} {best} {T′} room h free pos s c = record {
+        small = right .small;
+        keyed = c .keyed;
+        leaf = λ p l. rw (s .here, s .only .others Settled (λ q. omega arith)) (go p l (ℕ-discrete p v));
+      }
+        where
+          D : List ℕ
+          D = columnOf (t .k + 2) W Label
 
-    -- A new label of p alone leaves the tree right but above p.
-    pub nearly-label : {p e : ℕ} → Right C t W → Put (t .k + 2) W Label p e W′ → NearlyRight C t W′ p (t .k + 2 + p)
-    nearly-label {p} {e} right s = record {
-      shaken =
-          rw (s .here, s .only .others Settled (λ q. omega arith), s .only .others Tree (λ q. omega arith))
-          (shaken-first (ranks C t W) (leaves C t W) (own-leaves _ _) (t .k + 2) (columnOf (t .k + 2) W Tree) (right .won) p _ _
-          (ahead-others (columnOf (t .k + 2) W Label) (cellOf C t) p e) (leaf-label (columnOf (t .k + 2) W Label) (columnOf (t .k + 2) W Settled) p e));
-    }
+          F : List ℕ
+          F = columnOf (t .k + 2) W Settled
 
-    -- A new flag of p alone does so too.
-    pub nearly-settled : {p e : ℕ} → Right C t W → Put (t .k + 2) W Settled p e W′ → NearlyRight C t W′ p (t .k + 2 + p)
-    nearly-settled {p} {e} right s = record {
-      shaken =
-          rw (s .only .others Label (λ q. omega arith), s .here, s .only .others Tree (λ q. omega arith))
-          (shaken-first (ranks C t W) (leaves C t W) (own-leaves _ _) (t .k + 2) (columnOf (t .k + 2) W Tree) (right .won) p _ _
-          (λ x y nx ny h. h) (leaf-settled (columnOf (t .k + 2) W Label) (columnOf (t .k + 2) W Settled) p e));
-    }
+          new : getD (set D v best) v 0 ≡ best
+          new = getD-set-same D v best 0 (rw (column-length (t .k + 2) W Label (omega arith) room) h)
 
--- On the way up from W₀ after a change of p: the tree alone has changed, and is right but above node x.
-pub record Rising (C : List ℕ) (t : Trip) (W₀ W : List ℕ) (p x : ℕ) : Type 0 where
-  pub room : Room C t W
-  pub low : 0 < x
-  pub high : x < t .k + 2 + (t .k + 2)
-  pub only : Only (t .k + 2) W₀ Tree W
-  pub nearly : NearlyRight C t W p x
+          here : leafOf (set D v best) F (cellOf C t) v ≡ keyOf best (cellOf C t v) v
+          here = rw new at (leaf-waits (set D v best) F (cellOf C t) v (waits-open (set D v best) F (cellOf C t) v free (omega (arith, new))))
 
-module _ {C : List ℕ} {t : Trip} {W₀ W : List ℕ} {p x : ℕ} (r : Rising C t W₀ W p x) where
-  -- One node further up.
-  pub rising-more : {winner : ℕ} {W′ : List ℕ} → 1 < x → Played C t W (x / 2) winner W′ → Rising C t W₀ W′ p (x / 2)
-  rising-more more w = record {
-    room = room-kept (r .room) (w .put .only .sized);
-    low = omega arith;
-    high = omega (arith, r .high);
-    only = only-trans (r .only) (w .put .only);
-    nearly = nearly-up more (r .high) (r .room) (r .nearly) w;
-  }
+          go : (p : ℕ) → p < t .k + 2 → Dec (p ≡ v) → getD T′ (t .k + 2 + p) 0 ≡ leafOf (set D v best) F (cellOf C t) p
+          go p l (yes q) = rw q (c .here ∙ sym here)
+          go p l (no m) = c .others p m ∙ right .leaf p l ∙ sym (leaf-label D F (cellOf C t) v best p m)
 
-  -- At a node that holds who it held, and not p, the tree is right.
-  pub rising-early :
-      {winner : ℕ} {W′ : List ℕ} → 1 < x → Played C t W (x / 2) winner W′ → getD (columnOf (t .k + 2) W Tree) (x / 2) 0 ≡ winner → (winner ≡ p + 1 → ⊥) →
-      Raised C t W₀ W′
-  rising-early more w same other = record {
-    only = only-trans (r .only) (w .put .only);
-    right = right-at-once more (r .high) (r .room) (r .nearly) w same other;
-  }
+      -- A new label of a settled place changes no leaf.
+      pub right-still : {v best : ℕ} → 0 < getD (columnOf (t .k + 2) W Settled) v 0 → Put (t .k + 2) W Label v best W′ → Right C t W′ T
+      right-still {v} {best} done s = record {
+        small = right .small;
+        keyed = right .keyed;
+        leaf = λ p l. rw (s .here, s .only .others Settled (λ q. omega arith)) (go p l (ℕ-discrete p v));
+      }
+        where
+          D : List ℕ
+          D = columnOf (t .k + 2) W Label
 
-  -- At the top the tree is right.
-  pub rising-done : x ≤ 1 → Raised C t W₀ W
-  rising-done h =
-      let q : x ≡ 1 = omega (arith, r .low) in
-      record { only = r .only; right = record { won = right-at-top _ _ _ _ (rw q at (r .nearly .shaken .right)) } }
+          F : List ℕ
+          F = columnOf (t .k + 2) W Settled
 
-module _ {C : List ℕ} {t : Trip} {W W′ : List ℕ} where
-  -- A place that is marked, with the tree put right.
-  pub marked-of : {u : ℕ} {W″ : List ℕ} → Put (t .k + 2) W Settled u 1 W′ → Raised C t W′ W″ → Marked C t W u W″
-  marked-of s r = record {
-    label = r .only .others Label (λ q. omega arith) ∙ s .only .others Label (λ q. omega arith);
-    settled = r .only .others Settled (λ q. omega arith) ∙ s .here;
-    left = left-trans (only-left (omega arith) (s .only)) (only-left (omega arith) (r .only));
-    right = r .right;
-  }
+          go : (p : ℕ) → p < t .k + 2 → Dec (p ≡ v) → getD T (t .k + 2 + p) 0 ≡ leafOf (set D v best) F (cellOf C t) p
+          go p l (yes q) =
+              right .leaf p l ∙ leaf-nobody D F (cellOf C t) p (waits-settled D F (cellOf C t) p (rw q done)) ∙
+              sym (leaf-nobody (set D v best) F (cellOf C t) p (waits-settled (set D v best) F (cellOf C t) p (rw q done)))
+          go p l (no m) = right .leaf p l ∙ sym (leaf-label D F (cellOf C t) v best p m)
 
-  -- A label that is lowered, with the tree put right.
-  pub offer-of :
-      {v new best : ℕ} {W″ : List ℕ} → best ≡ lowered (getD (columnOf (t .k + 2) W Label) v 0) new → Put (t .k + 2) W Label v best W′ → Raised C t W′ W″ →
-      Offer C t W v new W″
-  offer-of {v} e s r = record {
-    label = r .only .others Label (λ q. omega arith) ∙ s .here ∙ ap (set (columnOf (t .k + 2) W Label) v) e;
-    settled = r .only .others Settled (λ q. omega arith) ∙ s .only .others Settled (λ q. omega arith);
-    left = left-trans (only-left (omega arith) (s .only)) (only-left (omega arith) (r .only));
-    right = r .right;
-  }
+      -- A place that is settled, with nobody in its leaf.
+      pub right-settled :
+          {v : ℕ} {T′ : List ℕ} → 6 * (t .k + 2) ≤ length W → v < t .k + 2 → Put (t .k + 2) W Settled v 1 W′ → Changed (t .k + 2) T v nobody T′ →
+          Right C t W′ T′
+      right-settled {v} {T′} room h s c = record {
+        small = right .small;
+        keyed = c .keyed;
+        leaf = λ p l. rw (s .here, s .only .others Label (λ q. omega arith)) (go p l (ℕ-discrete p v));
+      }
+        where
+          D : List ℕ
+          D = columnOf (t .k + 2) W Label
 
--- An offer that is no news.
-pub offer-kept :
-    {C : List ℕ} {t : Trip} {W : List ℕ} {v new : ℕ} → lowered (getD (columnOf (t .k + 2) W Label) v 0) new ≡ getD (columnOf (t .k + 2) W Label) v 0 →
-    Right C t W →
-    Offer C t W v new W
-offer-kept {C} {t} {W} {v} e r = record {
-  label = sym (ap (set (columnOf (t .k + 2) W Label) v) e ∙ set-getD (columnOf (t .k + 2) W Label) v 0);
-  settled = refl;
-  left = left-same _ _;
-  right = r;
-}
+          F : List ℕ
+          F = columnOf (t .k + 2) W Settled
+
+          flag : getD (set F v 1) v 0 ≡ 1
+          flag = getD-set-same F v 1 0 (rw (column-length (t .k + 2) W Settled (omega arith) room) h)
+
+          here : leafOf D (set F v 1) (cellOf C t) v ≡ nobody
+          here = leaf-nobody D (set F v 1) (cellOf C t) v (waits-settled D (set F v 1) (cellOf C t) v (omega (arith, flag)))
+
+          go : (p : ℕ) → p < t .k + 2 → Dec (p ≡ v) → getD T′ (t .k + 2 + p) 0 ≡ leafOf D (set F v 1) (cellOf C t) p
+          go p l (yes q) = rw q (c .here ∙ sym here)
+          go p l (no m) = c .others p m ∙ right .leaf p l ∙ sym (leaf-settled D F (cellOf C t) v 1 p m)

@@ -83,10 +83,11 @@ module _ (𝓒 : Chart) where
     pub known : (j : ℕ) → j < length (𝓒 .neighbours) → indexOf (𝓒 .corners) (getD (𝓒 .neighbours) j 0) < 𝓒 .trip .k
     pub other :
         (u j : ℕ) → u < 𝓒 .trip .k → getD (𝓒 .starts) u 0 ≤ j → j < getD (𝓒 .starts) (u + 1) 0 → getD (𝓒 .neighbours) j 0 ≡ getD (𝓒 .corners) u 0 → ⊥
-    -- cells are on a floor no wider and no higher than 255
+    -- cells are on a floor no wider and no higher than 255, which has no more than 16,384 of them
     pub some-width : 0 < 𝓒 .trip .w
     pub width : 𝓒 .trip .w ≤ 255
     pub cells : (i : ℕ) → i < 𝓒 .trip .k + 2 → cell i < 255 * 𝓒 .trip .w
+    pub small : (i : ℕ) → i < 𝓒 .trip .k + 2 → cell i < 16384
     -- the start has its own place only where it is no corner, and else has no flags; the same for the goal; and the two differ
     pub from : 𝓒 .trip .from ≤ 𝓒 .trip .k
     pub to : 𝓒 .trip .to < 𝓒 .trip .k + 2

@@ -9,7 +9,7 @@ use lib.ListN.{length, take, drop, set}
 unfoldable pub columnOf : ℕ → List ℕ → ℕ → List ℕ
 columnOf n W c = take n (drop (c * n) W)
 
--- The columns: labels, the winner tree, flags of settled places, flags of corners linked to the start, flags of corners linked to the goal,
+-- The columns: labels, a spare one, flags of settled places, flags of corners linked to the start, flags of corners linked to the goal,
 -- and one that the search leaves alone.
 abbrev pub Label : ℕ
 Label = 0

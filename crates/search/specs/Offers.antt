@@ -6,7 +6,7 @@ use mathlib.Core.Bool.{cond}
 use mathlib.Core.List.{List}
 use Prim.Native.Nat.{ℕ, _+_, _-_, _≤_, _<_, min}
 use lib.Dec.{ltb}
-use lib.ListN.{getD, set}
+use lib.ListN.{length, getD, set}
 use Rattle.settling.specs.Labels.{WaitingAt}
 use Rattle.search.specs.declared.Trip.{Trip}
 use Rattle.search.specs.Columns.{columnOf, Label, Settled, Left}
@@ -19,11 +19,12 @@ abbrev pub lowered : ℕ → ℕ → ℕ
 lowered old new = cond (ltb 0 old) (min old new) new
 
 -- Place v has been offered the entry `new`, and the tree is right.
-pub record Offer (C : List ℕ) (t : Trip) (W : List ℕ) (v new : ℕ) (W′ : List ℕ) : Type 0 where
+pub record Offer (C : List ℕ) (t : Trip) (W T : List ℕ) (v new : ℕ) (W′ T′ : List ℕ) : Type 0 where
   pub label : columnOf (t .k + 2) W′ Label ≡ set (columnOf (t .k + 2) W Label) v (lowered (getD (columnOf (t .k + 2) W Label) v 0) new)
   pub settled : columnOf (t .k + 2) W′ Settled ≡ columnOf (t .k + 2) W Settled
   pub left : Left (t .k + 2) W W′
-  pub right : Right C t W′
+  pub right : Right C t W′ T′
+  pub tree : length T′ ≡ length T
 
 -- Between D and D′ the place u, whose entry is d, has offered a way along its links below the k-th: an entry changes only to an offer, is
 -- never lost and never grows, and is at most each offer.
@@ -33,24 +34,26 @@ pub record Offered (𝓒 : Chart) (u d k : ℕ) (D D′ : List ℕ) : Type 0 whe
   pub offered : (j v : ℕ) → j < k → linkAt 𝓒 u j ≡ v + 1 → (0 < getD D′ v 0) × (getD D′ v 0 ≤ d + net 𝓒 .weight u v)
 
 -- Link j of u has been followed: the place that it leads to, if it leads to one, has been offered d and the link's length.
-pub record Follow (C S E : List ℕ) (t : Trip) (W : List ℕ) (u d j : ℕ) (W′ : List ℕ) : Type 0 where
-  pub some : (v : ℕ) → linkAt (chart C S E t W) u j ≡ v + 1 → Offer C t W v (d + net (chart C S E t W) .weight u v) W′
-  pub none : linkAt (chart C S E t W) u j ≡ 0 → W′ ≡ W
+pub record Follow (C S E : List ℕ) (t : Trip) (W T : List ℕ) (u d j : ℕ) (W′ T′ : List ℕ) : Type 0 where
+  pub some : (v : ℕ) → linkAt (chart C S E t W) u j ≡ v + 1 → Offer C t W T v (d + net (chart C S E t W) .weight u v) W′ T′
+  pub none : linkAt (chart C S E t W) u j ≡ 0 → (W′ ≡ W) × (T′ ≡ T)
   pub inside : linkAt (chart C S E t W) u j ≤ t .k + 2
 
 -- The links of u below the k-th have been followed.
-pub record Followed (C S E : List ℕ) (t : Trip) (W : List ℕ) (u d k : ℕ) (W′ : List ℕ) : Type 0 where
+pub record Followed (C S E : List ℕ) (t : Trip) (W T : List ℕ) (u d k : ℕ) (W′ T′ : List ℕ) : Type 0 where
   pub offered : Offered (chart C S E t W) u d k (columnOf (t .k + 2) W Label) (columnOf (t .k + 2) W′ Label)
   pub settled : columnOf (t .k + 2) W′ Settled ≡ columnOf (t .k + 2) W Settled
   pub left : Left (t .k + 2) W W′
-  pub right : Right C t W′
+  pub right : Right C t W′ T′
+  pub tree : length T′ ≡ length T
 
--- Place u is settled, and the tree is right.
-pub record Marked (C : List ℕ) (t : Trip) (W : List ℕ) (u : ℕ) (W′ : List ℕ) : Type 0 where
+-- Place u is settled, and the tree is right again, whatever the corners that it was right for.
+pub record Marked (t : Trip) (W T : List ℕ) (u : ℕ) (W′ T′ : List ℕ) : Type 0 where
   pub label : columnOf (t .k + 2) W′ Label ≡ columnOf (t .k + 2) W Label
   pub settled : columnOf (t .k + 2) W′ Settled ≡ set (columnOf (t .k + 2) W Settled) u 1
   pub left : Left (t .k + 2) W W′
-  pub right : Right C t W′
+  pub right : (C : List ℕ) → Right C t W T → Right C t W′ T′
+  pub tree : length T′ ≡ length T
 
 -- r is one more than the place that waits foremost, or 0 where none waits.
 pub record First (𝓒 : Chart) (W : List ℕ) (r : ℕ) : Type 0 where

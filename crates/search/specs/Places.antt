@@ -30,6 +30,11 @@ pub record Gain (c x half r : ℕ) : Type 0 where
   pub less : c < x → r ≡ half
   pub other : x ≤ c → r ≡ 0
 
+-- A table gives the index of each corner by its cell.
+pub record Indexed (C Q : List ℕ) : Type 0 where
+  pub room : 16384 ≤ length Q
+  pub index : (i : ℕ) → i < length C → getD Q (getD C i 0) 0 ≡ i
+
 -- The cell of a place: the corners come first, then the start, then the goal.
 unfoldable pub cellOf : List ℕ → Trip → ℕ → ℕ
 cellOf C t i = cond (ltb i (t .k)) (getD C i 0) (cond (eqb i (t .k)) (t .start) (t .goal))

@@ -7,7 +7,7 @@ use mathlib.Core.List.{List}
 use mathlib.Core.Option.{Option, some, none}
 use Prim.Native.Nat.{ℕ, _+_, _-_, _*_, _≤_, _<_}
 use lib.Dec.{ltb}
-use lib.ListN.{length, getD, set}
+use lib.ListN.{length, getD}
 use Rattle.settling.specs.Chains.{Chain, Reachable, Shortest, wholes}
 use Rattle.settling.specs.Order.{NoLater}
 use Rattle.settling.specs.Labels.{Labels, SettledAt, WaitingAt, Step, Sound}
@@ -49,15 +49,16 @@ pub record Near (𝓒 : Chart) (𝓢 : Labels wholes) : Type 0 where
   pub near : (u d : ℕ) → Foremost 𝓒 𝓢 u d → d ≤ limit
 
 -- One place has been settled, and r is one more than it; or none waits, and r is 0.
-pub record Settling (C S E : List ℕ) (t : Trip) (W : List ℕ) (r : ℕ) (W′ : List ℕ) : Type 0 where
+pub record Settling (C S E : List ℕ) (t : Trip) (W T : List ℕ) (r : ℕ) (W′ T′ : List ℕ) : Type 0 where
   pub inside : r ≤ t .k + 2
   pub none : r ≡ 0 → (W′ ≡ W) × ((v e : ℕ) → WaitingAt (labelsOf (t .k + 2) W) v e → ⊥)
   pub some :
       0 < r → (d : ℕ) × Step (net (chart C S E t W)) (order (chart C S E t W)) (labelsOf (t .k + 2) W) (labelsOf (t .k + 2) W′) (r - 1) d
   pub left : Left (t .k + 2) W W′
-  pub right : Right C t W′
+  pub right : Right C t W′ T′
+  pub tree : length T′ ≡ length T
 
--- Nothing is labelled, nothing is settled, and the tree is empty.
+-- Nothing is labelled, nothing is settled, and the spare column is empty.
 pub record Blank (n : ℕ) (W : List ℕ) : Type 0 where
   pub label : (v : ℕ) → getD (columnOf n W Label) v 0 ≡ 0
   pub tree : (v : ℕ) → getD (columnOf n W Tree) v 0 ≡ 0

@@ -1,22 +1,27 @@
 // The search over places, nearest first, of equally near ones the smaller cell number first. Places are the corners by
-// their index, then the start (k) and the goal (k + 1), unless they are corners themselves. All state is in a work
-// space that the caller lends: six columns of k + 2 entries, where 0 means nothing, so that zeros are an empty search.
+// their index, then the start (k) and the goal (k + 1), unless they are corners themselves. What a search finds is in a
+// work space that the caller lends: six columns of k + 2 entries, where 0 means nothing, so that zeros are an empty
+// search. What it needs only while it runs is in arrays of its own: a tree of keys, which tells the place that comes
+// first, and a table, which tells the index of a neighbour. They take about 65 KB of the call's stack.
 ghost use mathlib.Core.Path.{_≡_};
 ghost use Prim.Native.Nat.{ℕ, _+_, _*_, _<_, _≤_, min};
 ghost use mathlib.Core.List.{List};
 ghost use lib.ListN.{length, getD};
 ghost use Rattle.lengths.specs.Lengths.{gap as gapOf, octileOf};
 ghost use Rattle.lengths.specs.Laws.{weight};
-ghost use Rattle.search.specs.Columns.{columnOf, Label, Tree, Settled, Inside, Put};
-ghost use Rattle.search.specs.Places.{indexOf, Ascending, Bound, Gain, cellOf, apart, TwoCells};
+ghost use Rattle.search.specs.Columns.{columnOf, Inside, Put};
+ghost use Rattle.search.specs.Places.{indexOf, Ascending, Bound, Gain, Indexed, cellOf, apart, TwoCells};
 ghost use Rattle.search.specs.Chart.{chart, flagged as flaggedOf, Rows, arcsOf, countOf, cornerLink, linkAt, linkCount};
-ghost use Rattle.search.specs.Tree.{waitsAt, leafOf, nodeOf, Better, ranks, Room, Right, NearlyRight, Playable, Played, Raised};
+ghost use Rattle.search.specs.Keys.{nobody, Keyed};
+ghost use Rattle.search.specs.Tree.{Room, Small, Right};
 ghost use Rattle.search.specs.Search.{labelsOf, Ready, limit, Near, Settling, Blank, Bounded, Run};
 ghost use Rattle.search.specs.Offers.{lowered as loweredOf, Offer, Follow, Followed, Marked, First};
 
+mod tree;
+
 // The least length known of a place, plus one; 0 for none.
 pub const LABEL: usize = 0;
-// The winner tree: one more than a place; 0 for nobody.
+// Spare: the search leaves it alone.
 pub const TREE: usize = 1;
 // 1 for a settled place, else 0.
 pub const SETTLED: usize = 2;
@@ -38,16 +43,10 @@ pub struct Trip {
     pub to: usize,
 }
 
-// A number of 16 bits, and one of 32, as an index.
+// A number of 16 bits as an index.
 fn wide(x: u16) -> usize
     ensures same { λ r. ⌜ r ≡ x ⌝ }
     ensures bounded { λ r. ⌜ r < 65536 ⌝ }
-{
-    x as usize
-}
-
-fn size(x: u32) -> usize
-    ensures { λ r. ⌜ r ≡ x ⌝ }
 {
     x as usize
 }
@@ -171,6 +170,23 @@ pub fn find(cells: &[u16], cell: usize) -> usize
     cells.len()
 }
 
+// Writes the index of each corner to its cell's entry of a table.
+fn index_corners(corners: &[u16], table: &mut [u16])
+    requires ascending { ⌜ Ascending (now corners) ⌝ }
+    requires few { ⌜ length (now corners) ≤ 2048 ⌝ }
+    requires small { ⌜ ((i : ℕ) → i < length (now corners) → getD (now corners) i 0 < 16384) ⌝ }
+    requires room { ⌜ 16384 ≤ length (now table) ⌝ }
+    ensures indexed { λ r. ⌜ Indexed (now (corners .entry)) (now (table .exit)) ⌝ }
+    ensures sized { λ r. ⌜ length (now (table .exit)) ≡ length (now (table .entry)) ⌝ }
+{
+    let mut i: usize = 0;
+    while i < corners.len() {
+        let cell = wide(corners[i]);
+        table[cell] = i as u16;
+        i += 1;
+    }
+}
+
 // ---- links
 
 // How many neighbours corner u has.
@@ -259,111 +275,6 @@ pub fn link_at(
     flagged(work, t.k + 2, BY_GOAL, j, j)
 }
 
-// ---- the winner tree
-
-// Whether place i waits: it has a label and is not settled.
-fn waits(work: &[u32], n: usize, i: usize) -> bool
-    requires { ⌜ (i < n) × (6 * n ≤ length (now work)) ⌝ }
-    ensures { λ r. ⌜ r ≡ waitsAt (columnOf n (now (work .entry)) Label) (columnOf n (now (work .entry)) Settled) i ⌝ }
-{
-    let settled = get(work, n, SETTLED, i);
-    if 0 < settled {
-        return false;
-    }
-    let label = get(work, n, LABEL, i);
-    0 < label
-}
-
-// What node i holds: below n what is stored, from n on the place itself.
-fn node(work: &[u32], n: usize, i: usize) -> u32
-    requires { ⌜ (i < n + n) × (n ≤ 2050) × (6 * n ≤ length (now work)) ⌝ }
-    ensures { λ r. ⌜ r ≡ nodeOf (leafOf (columnOf n (now (work .entry)) Label) (columnOf n (now (work .entry)) Settled)) n (columnOf n (now (work .entry)) Tree) i ⌝ }
-{
-    if i < n {
-        return get(work, n, TREE, i);
-    }
-    let p = i - n;
-    if waits(work, n, p) {
-        return p as u32 + 1;
-    }
-    0
-}
-
-// The one of two labelled places, each plus one, that comes first: by label, then by cell number.
-fn sooner(corners: &[u16], t: Trip, work: &[u32], a: u32, b: u32) -> u32
-    requires room { ⌜ Room (now corners) t (now work) ⌝ }
-    requires left { ⌜ (0 < a) × (a ≤ t .k + 2) ⌝ }
-    requires right { ⌜ (0 < b) × (b ≤ t .k + 2) ⌝ }
-    ensures { λ r. ⌜ Better (ranks (now (corners .entry)) t (now (work .entry))) a b r ⌝ }
-{
-    let i = size(a) - 1;
-    let j = size(b) - 1;
-    let x = get(work, t.k + 2, LABEL, i);
-    let y = get(work, t.k + 2, LABEL, j);
-    if x < y {
-        return a;
-    }
-    if y < x {
-        return b;
-    }
-    let p = cell_of(corners, t, i);
-    let q = cell_of(corners, t, j);
-    if p < q {
-        return a;
-    }
-    b
-}
-
-// The better of what two nodes hold.
-fn better(corners: &[u16], t: Trip, work: &[u32], a: u32, b: u32) -> u32
-    requires room { ⌜ Room (now corners) t (now work) ⌝ }
-    requires left { ⌜ a ≤ t .k + 2 ⌝ }
-    requires right { ⌜ b ≤ t .k + 2 ⌝ }
-    ensures { λ r. ⌜ Better (ranks (now (corners .entry)) t (now (work .entry))) a b r ⌝ }
-{
-    if a == 0 {
-        return b;
-    }
-    if b == 0 {
-        return a;
-    }
-    sooner(corners, t, work, a, b)
-}
-
-// Puts node i right, and says who wins there.
-fn renew(corners: &[u16], t: Trip, work: &mut [u32], i: usize) -> u32
-    requires { ⌜ Playable (now corners) t (now work) i ⌝ }
-    ensures { λ r. ⌜ Played (now (corners .entry)) t (now (work .entry)) i r (now (work .exit)) ⌝ }
-{
-    let n = t.k + 2;
-    let a = node(work, n, 2 * i);
-    let b = node(work, n, 2 * i + 1);
-    let best = better(corners, t, work, a, b);
-    put(work, n, TREE, i, best);
-    best
-}
-
-// Puts the tree right after place p alone has changed: each node above it, from below to the top, or to a node that
-// holds another than p and still the same one, since then nothing changes above it.
-fn raise(corners: &[u16], t: Trip, work: &mut [u32], p: usize)
-    requires room { ⌜ Room (now corners) t (now work) ⌝ }
-    requires inside { ⌜ p < t .k + 2 ⌝ }
-    requires nearly { ⌜ NearlyRight (now corners) t (now work) p (t .k + 2 + p) ⌝ }
-    ensures { λ r. ⌜ Raised (now (corners .entry)) t (now (work .entry)) (now (work .exit)) ⌝ }
-{
-    let mut i = t.k + 2 + p;
-    while 1 < i {
-        i = i / 2;
-        let old = get(work, t.k + 2, TREE, i);
-        let new = renew(corners, t, work, i);
-        if size(new) != p + 1 {
-            if new == old {
-                return;
-            }
-        }
-    }
-}
-
 // ---- the search
 
 // The entry after an offer: the less of the two, where there was one.
@@ -379,19 +290,26 @@ fn lowered(old: u32, new: u32) -> u32
     old
 }
 
-// Place v may be reached at a length that is one less than `new`.
-fn offer(corners: &[u16], t: Trip, work: &mut [u32], v: usize, new: u32)
+// Place v may be reached at a length that is one less than `new`. Where that is news, and v is not settled, its key
+// climbs in the tree.
+fn offer(corners: &[u16], t: Trip, work: &mut [u32], tree: &mut [u64], v: usize, new: u32)
     requires room { ⌜ Room (now corners) t (now work) ⌝ }
-    requires right { ⌜ Right (now corners) t (now work) ⌝ }
+    requires right { ⌜ Right (now corners) t (now work) (now tree) ⌝ }
     requires inside { ⌜ v < t .k + 2 ⌝ }
-    ensures { λ r. ⌜ Offer (now (corners .entry)) t (now (work .entry)) v new (now (work .exit)) ⌝ }
+    requires some { ⌜ 0 < new ⌝ }
+    ensures { λ r. ⌜ Offer (now (corners .entry)) t (now (work .entry)) (now (tree .entry)) v new (now (work .exit)) (now (tree .exit)) ⌝ }
 {
     let n = t.k + 2;
     let old = get(work, n, LABEL, v);
     let best = lowered(old, new);
     if best != old {
         put(work, n, LABEL, v, best);
-        raise(corners, t, work, v);
+        let settled = get(work, n, SETTLED, v);
+        if settled == 0 {
+            let cell = cell_of(corners, t, v);
+            let key = tree::key(best, cell, v);
+            tree::climb(tree, n, v, key);
+        }
     }
 }
 
@@ -402,16 +320,17 @@ fn follow(
     neighbours: &[u16],
     t: Trip,
     work: &mut [u32],
+    tree: &mut [u64],
     u: usize,
     d: u32,
     j: usize,
 )
     requires ready { ⌜ Ready (now corners) (now starts) (now neighbours) t (now work) ⌝ }
-    requires right { ⌜ Right (now corners) t (now work) ⌝ }
+    requires right { ⌜ Right (now corners) t (now work) (now tree) ⌝ }
     requires inside { ⌜ u < t .k + 2 ⌝ }
     requires there { ⌜ j < linkCount (chart (now corners) (now starts) (now neighbours) t (now work)) u ⌝ }
-    requires short { ⌜ d ≤ limit + 1 ⌝ }
-    ensures { λ r. ⌜ Follow (now (corners .entry)) (now (starts .entry)) (now (neighbours .entry)) t (now (work .entry)) u d j (now (work .exit)) ⌝ }
+    requires short { ⌜ (0 < d) × (d ≤ limit + 1) ⌝ }
+    ensures { λ r. ⌜ Follow (now (corners .entry)) (now (starts .entry)) (now (neighbours .entry)) t (now (work .entry)) (now (tree .entry)) u d j (now (work .exit)) (now (tree .exit)) ⌝ }
 {
     let to = link_at(corners, starts, neighbours, t, work, u, j);
     if to != 0 {
@@ -419,87 +338,135 @@ fn follow(
         let a = cell_of(corners, t, u);
         let b = cell_of(corners, t, v);
         let far = leg(t.w, a, b);
-        offer(corners, t, work, v, d + far);
+        offer(corners, t, work, tree, v, d + far);
     }
 }
 
-// Follows each link of u.
+// Offers each neighbour of corner u the way by u, whose entry is d, and says how many there are; 0 where u is no corner.
+fn follow_arcs(
+    corners: &[u16],
+    starts: &[u16],
+    neighbours: &[u16],
+    t: Trip,
+    table: &[u16],
+    work: &mut [u32],
+    tree: &mut [u64],
+    u: usize,
+    d: u32,
+) -> usize
+    requires ready { ⌜ Ready (now corners) (now starts) (now neighbours) t (now work) ⌝ }
+    requires right { ⌜ Right (now corners) t (now work) (now tree) ⌝ }
+    requires indexed { ⌜ Indexed (now corners) (now table) ⌝ }
+    requires inside { ⌜ u < t .k + 2 ⌝ }
+    requires short { ⌜ (0 < d) × (d ≤ limit + 1) ⌝ }
+    ensures most { λ r. ⌜ r ≤ linkCount (chart (now (corners .entry)) (now (starts .entry)) (now (neighbours .entry)) t (now (work .entry))) u ⌝ }
+    ensures followed { λ r. ⌜ Followed (now (corners .entry)) (now (starts .entry)) (now (neighbours .entry)) t (now (work .entry)) (now (tree .entry)) u d r (now (work .exit)) (now (tree .exit)) ⌝ }
+{
+    if t.k <= u {
+        return 0;
+    }
+    let a = cell_of(corners, t, u);
+    let first = wide(starts[u]);
+    let count = arc_count(starts, u);
+    let mut j: usize = 0;
+    while j < count {
+        let b = wide(neighbours[first + j]);
+        let v = wide(table[b]);
+        let far = leg(t.w, a, b);
+        offer(corners, t, work, tree, v, d + far);
+        j += 1;
+    }
+    count
+}
+
+// Follows each link of u: its neighbours by the table, the others one by one.
 fn follow_all(
     corners: &[u16],
     starts: &[u16],
     neighbours: &[u16],
     t: Trip,
+    table: &[u16],
     work: &mut [u32],
+    tree: &mut [u64],
     u: usize,
     d: u32,
 )
     requires ready { ⌜ Ready (now corners) (now starts) (now neighbours) t (now work) ⌝ }
-    requires right { ⌜ Right (now corners) t (now work) ⌝ }
+    requires right { ⌜ Right (now corners) t (now work) (now tree) ⌝ }
+    requires indexed { ⌜ Indexed (now corners) (now table) ⌝ }
     requires inside { ⌜ u < t .k + 2 ⌝ }
     requires short { ⌜ (0 < d) × (d ≤ limit + 1) ⌝ }
-    ensures { λ r. ⌜ Followed (now (corners .entry)) (now (starts .entry)) (now (neighbours .entry)) t (now (work .entry)) u d (linkCount (chart (now (corners .entry)) (now (starts .entry)) (now (neighbours .entry)) t (now (work .entry))) u) (now (work .exit)) ⌝ }
+    ensures { λ r. ⌜ Followed (now (corners .entry)) (now (starts .entry)) (now (neighbours .entry)) t (now (work .entry)) (now (tree .entry)) u d (linkCount (chart (now (corners .entry)) (now (starts .entry)) (now (neighbours .entry)) t (now (work .entry))) u) (now (work .exit)) (now (tree .exit)) ⌝ }
 {
     let count = link_count(starts, t.k, u);
-    let mut j: usize = 0;
+    let mut j = follow_arcs(corners, starts, neighbours, t, table, work, tree, u, d);
     while j < count {
-        follow(corners, starts, neighbours, t, work, u, d, j);
+        follow(corners, starts, neighbours, t, work, tree, u, d, j);
         j += 1;
     }
 }
 
-// One more than the place that waits foremost, or 0 where none waits: it stands at the top of the tree, whatever the
-// chart that the tree is right for.
-fn next(t: Trip, work: &[u32]) -> usize
-    requires { ⌜ (t .k ≤ 2048) × (6 * (t .k + 2) ≤ length (now work)) ⌝ }
-    ensures { λ r. ⌜ ((C S E : List ℕ) → Right C t (now (work .entry)) → First (chart C S E t (now (work .entry))) (now (work .entry)) r) ⌝ }
+// One more than the place that waits foremost, or 0 where none waits: its key is at the top of the tree, whatever the
+// chart and the work space that the tree is right for.
+fn next(t: Trip, tree: &[u64]) -> usize
+    requires { ⌜ (t .k ≤ 2048) × Keyed (t .k + 2) (now tree) ⌝ }
+    ensures { λ r. ⌜ ((C S E W : List ℕ) → 6 * (t .k + 2) ≤ length W → Right C t W (now (tree .entry)) → First (chart C S E t W) W r) ⌝ }
 {
-    let top = get(work, t.k + 2, TREE, 1);
-    size(top)
+    let top = tree[1];
+    if top == tree::NOBODY {
+        return 0;
+    }
+    (top % 4096) as usize + 1
 }
 
-// Marks u as settled: it waits no longer, so the tree is put right.
-fn mark(corners: &[u16], t: Trip, work: &mut [u32], u: usize)
-    requires room { ⌜ Room (now corners) t (now work) ⌝ }
-    requires right { ⌜ Right (now corners) t (now work) ⌝ }
+// Marks u as settled: it waits no longer, so its leaf is emptied.
+fn mark(t: Trip, work: &mut [u32], tree: &mut [u64], u: usize)
+    requires room { ⌜ (t .k ≤ 2048) × (6 * (t .k + 2) ≤ length (now work)) ⌝ }
+    requires keyed { ⌜ Keyed (t .k + 2) (now tree) ⌝ }
     requires inside { ⌜ u < t .k + 2 ⌝ }
-    ensures { λ r. ⌜ Marked (now (corners .entry)) t (now (work .entry)) u (now (work .exit)) ⌝ }
+    ensures { λ r. ⌜ Marked t (now (work .entry)) (now (tree .entry)) u (now (work .exit)) (now (tree .exit)) ⌝ }
 {
     put(work, t.k + 2, SETTLED, u, 1);
-    raise(corners, t, work, u);
+    tree::empty(tree, t.k + 2, u);
 }
 
 // Settles the place that waits foremost and says one more than it, or 0 where none waits.
-pub fn settle(
+fn settle(
     corners: &[u16],
     starts: &[u16],
     neighbours: &[u16],
     t: Trip,
+    table: &[u16],
     work: &mut [u32],
+    tree: &mut [u64],
 ) -> usize
     requires ready { ⌜ Ready (now corners) (now starts) (now neighbours) t (now work) ⌝ }
-    requires right { ⌜ Right (now corners) t (now work) ⌝ }
+    requires right { ⌜ Right (now corners) t (now work) (now tree) ⌝ }
+    requires indexed { ⌜ Indexed (now corners) (now table) ⌝ }
     requires near { ⌜ Near (chart (now corners) (now starts) (now neighbours) t (now work)) (labelsOf (t .k + 2) (now work)) ⌝ }
-    ensures { λ r. ⌜ Settling (now (corners .entry)) (now (starts .entry)) (now (neighbours .entry)) t (now (work .entry)) r (now (work .exit)) ⌝ }
+    ensures { λ r. ⌜ Settling (now (corners .entry)) (now (starts .entry)) (now (neighbours .entry)) t (now (work .entry)) (now (tree .entry)) r (now (work .exit)) (now (tree .exit)) ⌝ }
 {
-    let first = next(t, work);
+    let first = next(t, tree);
     if first == 0 {
         return 0;
     }
     let u = first - 1;
     let d = get(work, t.k + 2, LABEL, u);
-    mark(corners, t, work, u);
-    follow_all(corners, starts, neighbours, t, work, u, d);
+    mark(t, work, tree, u);
+    follow_all(corners, starts, neighbours, t, table, work, tree, u, d);
     first
 }
 
 // The start is reached at the length 0.
-pub fn begin(corners: &[u16], t: Trip, work: &mut [u32])
+fn begin(corners: &[u16], t: Trip, work: &mut [u32], tree: &mut [u64])
     requires room { ⌜ Room (now corners) t (now work) ⌝ }
+    requires small { ⌜ Small (now corners) t ⌝ }
     requires blank { ⌜ Blank (t .k + 2) (now work) ⌝ }
+    requires bare { ⌜ (4100 ≤ length (now tree)) × ((i : ℕ) → i < length (now tree) → getD (now tree) i 0 ≡ nobody) ⌝ }
     requires from { ⌜ t .from < t .k + 2 ⌝ }
-    ensures { λ r. ⌜ Offer (now (corners .entry)) t (now (work .entry)) (t .from) 1 (now (work .exit)) ⌝ }
+    ensures { λ r. ⌜ Offer (now (corners .entry)) t (now (work .entry)) (now (tree .entry)) (t .from) 1 (now (work .exit)) (now (tree .exit)) ⌝ }
 {
-    offer(corners, t, work, t.from, 1);
+    offer(corners, t, work, tree, t.from, 1);
 }
 
 // Settles places from the start on, until the goal is settled, none waits or `budget` of them are settled, and says how
@@ -517,14 +484,17 @@ pub fn run(
     requires bounded { ⌜ Bounded (chart (now corners) (now starts) (now neighbours) t (now work)) ⌝ }
     ensures { λ r. ⌜ Run (now (corners .entry)) (now (starts .entry)) (now (neighbours .entry)) t (now (work .entry)) budget r (now (work .exit)) ⌝ }
 {
-    begin(corners, t, work);
+    let mut table = [0u16; 16384];
+    let mut tree = [tree::NOBODY; 4100];
+    index_corners(corners, &mut table);
+    begin(corners, t, work, &mut tree);
     let mut effort: usize = 0;
     while effort < budget {
         let done = get(work, t.k + 2, SETTLED, t.to);
         if 0 < done {
             return effort;
         }
-        let last = settle(corners, starts, neighbours, t, work);
+        let last = settle(corners, starts, neighbours, t, &table, work, &mut tree);
         if last == 0 {
             return effort;
         }
