@@ -1,27 +1,18 @@
 -- The numbers that pass a test, as a loop writes them into a list, or reads them there. Assumes nothing.
 use Prim.Native.Nat.{ℕ, _+_, _≤_, _<_}
 use mathlib.Core.Bool.{Bool, true, false, _&&_}
-use mathlib.Core.List.{List}
+use mathlib.Core.List.{List, _++_}
 use mathlib.Core.Path.{_≡_, sym, ap, _∙_}
 use native.Mathlib.Omega.{arith}
 use lib.Dec.{ltb, eqb}
-use lib.ListN.{length, getD, set, take}
-use lib.Seq.{take-length}
+use lib.ListN.{length, getD, set, take, drop, length-append, length-take}
+use lib.Seq.{take-length, drop-append-seam, drop-append-add, drop-drop}
 use borrow.Author.Tests.{ltb-true, eqb-true, eqb-false, lt-ltb, eq-eqb}
 use Rattle.floor.specs.Refusals.{Tells}
-use Rattle.ground.proofs.Logic.{and-left, and-right}
-use Rattle.marks.specs.Lists.{written, select}
-use Rattle.marks.proofs.Selects.{select-none, select-taken, select-passed, length-taken, length-passed, select-fewer, select-entry, written-long, written-more, take-more}
-
--- those below n, k in number, are written over the first entries of what was lent
-pub record Written (f : ℕ → Bool) (lent : List ℕ) (n : ℕ) (now : List ℕ) (k : ℕ) : Type 0 where
-  pub count : k ≡ length (select f n)
-  pub list : now ≡ written (select f n) lent
-
--- those below n, k in number, are the first entries of a list
-pub record Read (f : ℕ → Bool) (xs : List ℕ) (n k : ℕ) : Type 0 where
-  pub count : k ≡ length (select f n)
-  pub first : take k xs ≡ select f n
+use Rattle.ground.proofs.Logic.{and-left, and-right, not-both}
+use Rattle.marks.specs.Lists.{select}
+use Rattle.marks.specs.Listing.{Written, Read, Told}
+use Rattle.marks.proofs.Selects.{select-none, select-taken, select-passed, length-taken, length-passed, select-first, select-same, select-fewer, select-entry, written-long, written-more, take-more}
 
 module _ (f : ℕ → Bool) where
   -- ---- written
@@ -55,6 +46,30 @@ module _ (f : ℕ → Bool) where
             list = rw (s .count, s .list, select-taken f n e) (written-more (select f n) lent n fewer);
           }
 
+    -- a list that was written so far is written on
+    pub write-on : Written f now n now k
+    write-on =
+        record {
+          count = s .count;
+          list = s .list ∙ ap (λ t. select f n ++ t) (sym (ap (drop (length (select f n))) (s .list) ∙ drop-append-seam (select f n) _));
+        }
+
+    -- and what was written on is written
+    pub written-on : (m : ℕ) (next : List ℕ) (j : ℕ) → n ≤ m → Written f now m next j → Written f lent m next j
+    written-on m next j l t =
+        let (rest, e) = select-first f n m l in
+        let long : length (select f m) ≡ length (select f n) + length rest = ap length e ∙ length-append (select f n) rest in
+        record {
+          count = t .count;
+          list = t .list
+              ∙ ap (λ z. select f m ++ z)
+              (rw (long, s .list) (drop-append-add (select f n) _ (length rest) ∙ drop-drop (length rest) (length (select f n)) lent));
+        }
+
+    -- where none of the next i numbers passes there is nothing to write
+    pub write-none : (i : ℕ) → ((j : ℕ) → j < i → f (n + j) ≡ false) → Written f lent (n + i) now k
+    write-none i e = record { count = rw (select-same f n i e) (s .count); list = rw (select-same f n i e) (s .list) }
+
   -- ---- read
   -- at first none
   pub none-read : (xs : List ℕ) → Read f xs 0 0
@@ -75,11 +90,31 @@ module _ (f : ℕ → Bool) where
         }
 
     -- if the list is that of all of them
-    pub read-entry : (m : ℕ) → n < m → f n ≡ true → xs ≡ select f m → (ltb k (length xs) && eqb (getD xs k 0) n) ≡ true
+    read-entry : (m : ℕ) → n < m → f n ≡ true → xs ≡ select f m → (ltb k (length xs) && eqb (getD xs k 0) n) ≡ true
     read-entry m l e p =
         let a : k < length xs = omega (arith, select-fewer f n m l e, s .count, ap length p) in
         let b : getD xs k 0 ≡ n = rw (p, s .count) (select-entry f n m l e) in
         rw (lt-ltb k (length xs) a) (eq-eqb (getD xs k 0) n b)
+
+    -- where none of the next i numbers passes there is nothing to look for
+    pub read-none : (i : ℕ) → ((j : ℕ) → j < i → f (n + j) ≡ false) → Read f xs (n + i) k
+    read-none i e = record { count = rw (select-same f n i e) (s .count); first = rw (select-same f n i e) (s .first) }
+
+    -- no more are read than there are entries
+    read-few : k ≤ length xs
+    read-few = omega (arith, s .count, ap length (s .first), length-take k xs)
+
+    -- what was read is told
+    pub read-told : Told f xs n k
+    read-told = record { read = λ l. s; refused = λ l. absurd (omega (arith, read-few)) }
+
+    -- and so is that an entry is not there
+    pub refused-told : (m : ℕ) → n < m → f n ≡ true → (ltb k (length xs) && eqb (getD xs k 0) n) ≡ false → Told f xs m (length xs + 1)
+    refused-told m l e b =
+        record {
+          read = λ a. absurd (omega arith);
+          refused = λ a j o p. absurd (not-both (read-entry j (omega arith) e p) b);
+        }
 
     -- at the end the list is theirs if it has no other entry
     pub read-all : Tells (xs ≡ select f n) (eqb k (length xs))

@@ -16,7 +16,7 @@ use Rattle.ground.proofs.Axes.{end-x, end-y}
 use Rattle.ground.proofs.LineEnds.{hops, travel-replicate}
 use Rattle.ground.proofs.ByClearance.{clearance-unique}
 use Rattle.marks.specs.Marks.{ClearanceAt}
-use Rattle.marks.specs.Marking.{entryAt, byNext}
+use Rattle.marks.specs.Marking.{entryAt, byBits, byNext}
 
 -- ---- at a free place, by the next place
 module _ (B : Board) (c : Dir) (p : Place) (f : Free B p) where
@@ -63,18 +63,18 @@ one-clearance B c p m n (inr r) (inr s) = clearance-unique B c p m n r s
 module _ (B : Board) (w : ℕ) (clear : List ℕ) (p : Place) (d : ℕ) where
   -- where the place is blocked or the step is not legal
   pub next-none : (B (p .x) (p .y) && B (go (dirAt d) p .x) (go (dirAt d) p .y)) ≡ false → byNext B w clear p d ≡ 0
-  unfolding byNext
+  unfolding byBits
   next-none b = rw b
 
   module _ (f : Free B p) (g : Free B (go (dirAt d) p)) where
     -- where it leads to a turning point
     pub next-corner : corner B (go (dirAt d) p) ≡ true → byNext B w clear p d ≡ 1
-    unfolding byNext
+    unfolding byBits
     next-corner k = rw (f, g, k)
 
     -- where it does not
     pub next-more : corner B (go (dirAt d) p) ≡ false → byNext B w clear p d ≡ suc (entryAt w clear (go (dirAt d) p) d)
-    unfolding byNext
+    unfolding byBits
     next-more k = rw (f, g, k)
 
   -- it is right where the next place's entry is

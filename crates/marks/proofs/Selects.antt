@@ -4,6 +4,7 @@ use mathlib.Core.Bool.{Bool, true, false, cond}
 use mathlib.Core.List.{List, [], _∷_, _++_, append-nil, append-assoc}
 use mathlib.Core.Path.{_≡_, refl, sym, ap, _∙_}
 use native.Mathlib.Decide.{ℕ-discrete}
+use native.Mathlib.Nat.{add-zero}
 use native.Mathlib.Numerals.{add-one}
 use native.Mathlib.Omega.{arith}
 use lib.ListN.{length, getD, set, take, drop, length-append, length-drop}
@@ -35,6 +36,17 @@ module _ (f : ℕ → Bool) where
       by : (m ≤ n → (rest : List ℕ) × (select f n ≡ select f m ++ rest)) → Dec (m ≡ suc n) → (rest : List ℕ) × (select f (suc n) ≡ select f m ++ rest)
       by g (yes e) = ([], rw (e, append-nil))
       by g (no k) = let (rest, e) = g (omega (arith, k)) in (rest ++ cond (f n) (n ∷ []) [], rw (e, append-assoc))
+
+  -- where none of the next i numbers passes they are all
+  pub select-same : (n i : ℕ) → ((j : ℕ) → j < i → f (n + j) ≡ false) → select f (n + i) ≡ select f n
+  select-same n zero e = ap (select f) (add-zero n)
+  select-same n (suc i) e =
+      let next : n + suc i ≡ (n + i) + 1 = omega arith in
+      ap (select f) next ∙ select-passed (n + i) (e i (omega arith)) ∙ select-same n i (λ j l. e j (omega arith))
+
+  -- those below m are no more than those below n
+  pub select-grows : (m n : ℕ) → m ≤ n → length (select f m) ≤ length (select f n)
+  select-grows m n l = let (rest, e) = select-first m n l in omega (arith, ap length e, length-append (select f m) rest)
 
   -- there are at most n
   pub select-few : (n : ℕ) → length (select f n) ≤ n

@@ -1,4 +1,6 @@
 -- The definitions that the contracts cite.
 pub mod Lists
+pub mod Listing
 pub mod Marks
+pub mod Chunks
 pub mod Marking

@@ -1,15 +1,18 @@
-// Clearances and turning points: written, and recognised.
+// Clearances and turning points: written, and recognised. A row is taken 64 cells at a time, a chunk, by the floor's masks.
 ghost use mathlib.Core.Path.{_≡_};
-ghost use Prim.Native.Nat.{_+_, _*_, _<_, _≤_};
-ghost use mathlib.Core.Bool.{_&&_};
+ghost use Prim.Native.Nat.{_+_, _-_, _*_, _%_, _<_, _≤_};
+ghost use mathlib.Core.Bool.{true, _&&_};
 ghost use lib.Dec.{eqb, ltb};
 ghost use lib.ListN.{length, getD, set};
-ghost use Rattle.floor.specs.Board.{at};
 ghost use Rattle.floor.specs.Refusals.{Tells};
-ghost use Rattle.floor.specs.Words.{board, placeOf, numberOf, Floor, IsRow};
+ghost use Rattle.floor.specs.Masks.{bitSet, Mask};
+ghost use Rattle.floor.specs.Words.{board, placeOf, numberOf, Floor, cellOf};
 ghost use Rattle.marks.specs.Lists.{written};
+ghost use Rattle.marks.specs.Listing.{Written, Read, Told};
 ghost use Rattle.marks.specs.Marks.{cornerCell, cornerCells, Cleared};
-ghost use Rattle.marks.specs.Marking.{byNext, MarkedWays, MarkedAll};
+ghost use Rattle.marks.specs.Chunks.{Chunk, Span, LastSpan, RowBits, inRow};
+ghost use Rattle.marks.specs.Marking.{stepsTo, turnsTo, byBits, NextFrom, NextIn, Upward, Downward, Right, Marking, MarkedAll, ChunkAgrees, WayAgrees};
+ghost use Rattle.floor.specs.Board.{dirAt, go};
 
 // Whether a cell is a turning point.
 pub fn corner_cell(words: &[u64], w: usize, h: usize, cell: usize) -> bool
@@ -17,6 +20,55 @@ pub fn corner_cell(words: &[u64], w: usize, h: usize, cell: usize) -> bool
     ensures { λ r. ⌜ r ≡ cornerCell w h (now (words .entry)) cell ⌝ }
 {
     floor::corner_at(words, w, h, cell % w, cell / w)
+}
+
+// Bit i of a mask.
+fn bit(mask: u64, i: usize) -> bool
+    requires { ⌜ i < 64 ⌝ }
+    ensures { λ r. ⌜ r ≡ bitSet mask i ⌝ }
+{
+    (mask >> i) % 2 == 1
+}
+
+// How many cells the chunk from a cell on has: 64, or those to the row's end.
+fn span(w: usize, h: usize, cell: usize) -> usize
+    requires { ⌜ (cell < w * h) × (cell % w % 64 ≡ 0) ⌝ }
+    ensures { λ r. ⌜ Span w h cell r ⌝ }
+{
+    let left = w - cell % w;
+    if left < 64 { left } else { 64 }
+}
+
+// How many cells the last chunk of the cells below e has.
+fn last_span(w: usize, h: usize, e: usize) -> usize
+    requires { ⌜ (0 < e) × (e ≤ w * h) ⌝ }
+    ensures { λ r. ⌜ LastSpan w h e r ⌝ }
+{
+    (e - 1) % w % 64 + 1
+}
+
+// The turning points of the chunk from a cell on. There is none past the row's end.
+fn corner_bits(words: &[u64], w: usize, h: usize, cell: usize) -> u64
+    requires { ⌜ Floor w h (now words) × ((cell < w * h) × (cell % w % 64 ≡ 0)) ⌝ }
+    ensures { λ r. ⌜ Mask (inRow w (cornerCell w h (now (words .entry))) cell) r ⌝ }
+{
+    floor::corner_mask(words, w, h, cell / w + 1, cell % w / 64)
+}
+
+// The cells of a chunk from which a step in direction dir is legal.
+fn step_bits(words: &[u64], w: usize, h: usize, cell: usize, dir: usize) -> u64
+    requires { ⌜ Floor w h (now words) × ((cell < w * h) × ((cell % w % 64 ≡ 0) × (dir < 4))) ⌝ }
+    ensures { λ r. ⌜ RowBits w (λ c. stepsTo (board w h (now (words .entry))) (placeOf w c) dir) cell r ⌝ }
+{
+    floor::step_mask(words, w, h, cell / w + 1, cell % w / 64, dir)
+}
+
+// The cells of a chunk from which a step in direction dir leads to a turning point.
+fn turn_bits(words: &[u64], w: usize, h: usize, cell: usize, dir: usize) -> u64
+    requires { ⌜ Floor w h (now words) × ((cell < w * h) × ((cell % w % 64 ≡ 0) × (dir < 4))) ⌝ }
+    ensures { λ r. ⌜ RowBits w (λ c. turnsTo (board w h (now (words .entry))) (placeOf w c) dir) cell r ⌝ }
+{
+    floor::turn_mask(words, w, h, cell / w + 1, cell % w / 64, dir)
 }
 
 // How many cells are turning points.
@@ -27,12 +79,40 @@ pub fn count_corners(words: &[u64], w: usize, h: usize) -> usize
     let mut count = 0;
     let mut cell = 0;
     while cell < w * h {
-        if corner_cell(words, w, h, cell) {
-            count += 1;
-        }
-        cell += 1;
+        count += u64::count_ones(corner_bits(words, w, h, cell)) as usize;
+        cell += span(w, h, cell);
     }
     count
+}
+
+// Writes the turning points of a chunk from entry k on, and tells how many are written then.
+fn mark_chunk(
+    words: &[u64],
+    w: usize,
+    h: usize,
+    corners: &mut [u16],
+    cell: usize,
+    count: usize,
+    k: usize,
+) -> usize
+    requires ready { ⌜ Floor w h (now words) × (Chunk w h cell count × (length (cornerCells w h (now words)) ≤ length (now corners))) ⌝ }
+    requires before { ⌜ Written (cornerCell w h (now words)) (now corners) cell (now corners) k ⌝ }
+    ensures { λ r. ⌜ Written (cornerCell w h (now (words .entry))) (now (corners .entry)) (cell + count) (now (corners .exit)) r ⌝ }
+{
+    let mask = corner_bits(words, w, h, cell);
+    if mask == 0 {
+        return k;
+    }
+    let mut to = k;
+    let mut i = 0;
+    while i < count {
+        if bit(mask, i) {
+            corners[to] = (cell + i) as u16;
+            to += 1;
+        }
+        i += 1;
+    }
+    to
 }
 
 // Writes the turning points, ascending.
@@ -43,11 +123,9 @@ pub fn mark_corners(words: &[u64], w: usize, h: usize, corners: &mut [u16])
     let mut k = 0;
     let mut cell = 0;
     while cell < w * h {
-        if corner_cell(words, w, h, cell) {
-            corners[k] = cell as u16;
-            k += 1;
-        }
-        cell += 1;
+        let count = span(w, h, cell);
+        k = mark_chunk(words, w, h, corners, cell, count, k);
+        cell += count;
     }
 }
 
@@ -59,71 +137,117 @@ pub fn clearance(clear: &[u8], w: usize, x: usize, y: usize, dir: usize) -> usiz
     clear[4 * (y * w + x) + dir] as usize
 }
 
-// The clearance of cell (x, y), whose row is lent too, by that of the next cell in the direction.
-fn clearance_by_next(
-    words: &[u64],
-    row: &[u64],
-    w: usize,
-    h: usize,
-    clear: &[u8],
-    x: usize,
-    y: usize,
-    dir: usize,
-) -> usize
-    requires ready { ⌜ Floor w h (now words) × ((4 * (w * h) ≤ length (now clear)) × ((x < w) × ((y < h) × (dir < 4)))) ⌝ }
-    requires row { ⌜ IsRow w (now words) y (now row) ⌝ }
-    ensures { λ r. ⌜ r ≡ byNext (board w h (now (words .entry))) w (now (clear .entry)) (at x y) dir ⌝ }
+// The number of the next cell in direction dir, 0 to 3.
+fn next_cell(w: usize, cell: usize, dir: usize) -> usize
+    requires { ⌜ (dir < 4) × ((cell < 16384) × ((w < 256) × NextFrom w cell (cellOf w (go (dirAt dir) (placeOf w cell))) dir)) ⌝ }
+    ensures { λ r. ⌜ r ≡ cellOf w (go (dirAt dir) (placeOf w cell)) ⌝ }
 {
-    let o = floor::in_window(dir);
-    let i = o[0];
-    let j = o[1];
-    if floor::cell_free(row, x) & floor::free_at(words, w, h, x + i, y + j) {
-        let nx = x + i - 1;
-        let ny = y + j - 1;
-        if floor::corner_at(words, w, h, nx, ny) {
+    if dir == 0 {
+        cell - w
+    } else if dir == 1 {
+        cell + 1
+    } else if dir == 2 {
+        cell + w
+    } else {
+        cell - 1
+    }
+}
+
+// The clearance of a cell by two bits, that the step is legal and that it leads to a turning point, and by that of the next cell.
+fn by_bits(clear: &[u8], w: usize, cell: usize, dir: usize, steps: bool, turns: bool) -> usize
+    requires { ⌜ (dir < 4) × ((cell < 16384) × ((w < 256) × (steps ≡ true → NextIn w (length (now clear)) cell dir))) ⌝ }
+    ensures { λ r. ⌜ r ≡ byBits steps turns w (now (clear .entry)) (placeOf w cell) dir ⌝ }
+{
+    if steps {
+        if turns {
             1
         } else {
-            1 + clearance(clear, w, nx, ny, dir)
+            1 + clear[4 * next_cell(w, cell, dir) + dir] as usize
         }
     } else {
         0
     }
 }
 
-// Writes the clearance of one cell in one direction, by that of the next cell.
-fn mark_one(words: &[u64], w: usize, h: usize, clear: &mut [u8], cell: usize, dir: usize)
-    requires { ⌜ Floor w h (now words) × ((4 * (w * h) ≤ length (now clear)) × ((cell < w * h) × ((dir < 4) × (byNext (board w h (now words)) w (now clear) (placeOf w cell) dir ≤ 255)))) ⌝ }
-    ensures { λ r. ⌜ now (clear .exit) ≡ set (now (clear .entry)) (4 * cell + dir) (byNext (board w h (now (words .entry))) w (now (clear .entry)) (placeOf w cell) dir) ⌝ }
+// Writes the clearance of one cell in one direction by its two bits.
+fn mark_bit(clear: &mut [u8], w: usize, cell: usize, dir: usize, steps: bool, turns: bool)
+    requires ready { ⌜ (dir < 4) × ((cell < 16384) × ((w < 256) × (4 * cell + dir < length (now clear)))) ⌝ }
+    requires next { ⌜ (steps ≡ true → NextIn w (length (now clear)) cell dir) × (byBits steps turns w (now clear) (placeOf w cell) dir ≤ 255) ⌝ }
+    ensures { λ r. ⌜ now (clear .exit) ≡ set (now (clear .entry)) (4 * cell + dir) (byBits steps turns w (now (clear .entry)) (placeOf w cell) dir) ⌝ }
 {
-    let y = cell / w;
-    let row = floor::row_of(words, w, h, y);
-    let m = clearance_by_next(words, row, w, h, clear, cell % w, y, dir);
+    let m = by_bits(clear, w, cell, dir, steps, turns);
     clear[4 * cell + dir] = m as u8;
 }
 
-// North and west: the next cell is an earlier one.
-fn mark_from_first(words: &[u64], w: usize, h: usize, clear: &mut [u8])
-    requires { ⌜ Floor w h (now words) × (4 * (w * h) ≤ length (now clear)) ⌝ }
-    ensures { λ r. ⌜ MarkedWays w h (now (words .entry)) 0 3 (now (clear .entry)) (now (clear .exit)) ⌝ }
+// Writes a chunk's clearances in direction dir, 0 or 3, from the first cell on.
+fn mark_up(
+    words: &[u64],
+    w: usize,
+    h: usize,
+    clear: &mut [u8],
+    cell: usize,
+    count: usize,
+    dir: usize,
+)
+    requires ready { ⌜ Floor w h (now words) × ((4 * (w * h) ≤ length (now clear)) × (Chunk w h cell count × ((dir < 4) × Upward (w * h) dir))) ⌝ }
+    requires before { ⌜ Right w h (now words) (now clear) dir cell ⌝ }
+    ensures { λ r. ⌜ Marking w h (now (words .entry)) dir (cell + count) (now (clear .entry)) (now (clear .exit)) ⌝ }
 {
-    let mut cell = 0;
-    while cell < w * h {
-        mark_one(words, w, h, clear, cell, 0);
-        mark_one(words, w, h, clear, cell, 3);
-        cell += 1;
+    let steps = step_bits(words, w, h, cell, dir);
+    let turns = turn_bits(words, w, h, cell, dir);
+    let mut i = 0;
+    while i < count {
+        mark_bit(clear, w, cell + i, dir, bit(steps, i), bit(turns, i));
+        i += 1;
     }
 }
 
-// East and south: the next cell is a later one.
-fn mark_from_last(words: &[u64], w: usize, h: usize, clear: &mut [u8])
-    requires { ⌜ Floor w h (now words) × (4 * (w * h) ≤ length (now clear)) ⌝ }
-    ensures { λ r. ⌜ MarkedWays w h (now (words .entry)) 1 2 (now (clear .entry)) (now (clear .exit)) ⌝ }
+// Writes a chunk's clearances in direction dir, 1 or 2, from the last cell on.
+fn mark_down(
+    words: &[u64],
+    w: usize,
+    h: usize,
+    clear: &mut [u8],
+    cell: usize,
+    count: usize,
+    dir: usize,
+)
+    requires ready { ⌜ Floor w h (now words) × ((4 * (w * h) ≤ length (now clear)) × (Chunk w h cell count × ((dir < 4) × Downward (w * h) dir))) ⌝ }
+    requires before { ⌜ Right w h (now words) (now clear) dir (w * h - (cell + count)) ⌝ }
+    ensures { λ r. ⌜ Marking w h (now (words .entry)) dir (w * h - cell) (now (clear .entry)) (now (clear .exit)) ⌝ }
+{
+    let steps = step_bits(words, w, h, cell, dir);
+    let turns = turn_bits(words, w, h, cell, dir);
+    let mut i = count;
+    while 0 < i {
+        i -= 1;
+        mark_bit(clear, w, cell + i, dir, bit(steps, i), bit(turns, i));
+    }
+}
+
+// Direction 0 or 3, north or west: the next cell is an earlier one.
+fn mark_from_first(words: &[u64], w: usize, h: usize, clear: &mut [u8], dir: usize)
+    requires { ⌜ Floor w h (now words) × ((4 * (w * h) ≤ length (now clear)) × ((dir < 4) × Upward (w * h) dir)) ⌝ }
+    ensures { λ r. ⌜ Marking w h (now (words .entry)) dir (w * h) (now (clear .entry)) (now (clear .exit)) ⌝ }
+{
+    let mut cell = 0;
+    while cell < w * h {
+        let count = span(w, h, cell);
+        mark_up(words, w, h, clear, cell, count, dir);
+        cell += count;
+    }
+}
+
+// Direction 1 or 2, east or south: the next cell is a later one.
+fn mark_from_last(words: &[u64], w: usize, h: usize, clear: &mut [u8], dir: usize)
+    requires { ⌜ Floor w h (now words) × ((4 * (w * h) ≤ length (now clear)) × ((dir < 4) × Downward (w * h) dir)) ⌝ }
+    ensures { λ r. ⌜ Marking w h (now (words .entry)) dir (w * h) (now (clear .entry)) (now (clear .exit)) ⌝ }
 {
     let mut left = w * h;
     while 0 < left {
-        left -= 1;
-        mark_one(words, w, h, clear, left, 1);
-        mark_one(words, w, h, clear, left, 2);
+        let count = last_span(w, h, left);
+        left -= count;
+        mark_down(words, w, h, clear, left, count, dir);
     }
 }
 
@@ -132,19 +256,54 @@ pub fn mark_clearances(words: &[u64], w: usize, h: usize, clear: &mut [u8])
     requires { ⌜ Floor w h (now words) × (4 * (w * h) ≤ length (now clear)) ⌝ }
     ensures { λ r. ⌜ MarkedAll w h (now (words .entry)) (now (clear .entry)) (now (clear .exit)) ⌝ }
 {
-    mark_from_first(words, w, h, clear);
-    mark_from_last(words, w, h, clear);
+    mark_from_first(words, w, h, clear, 0);
+    mark_from_last(words, w, h, clear, 1);
+    mark_from_last(words, w, h, clear, 2);
+    mark_from_first(words, w, h, clear, 3);
 }
 
-// Whether the clearance of one cell in one direction is what the next cell's makes it.
-fn one_matches(words: &[u64], w: usize, h: usize, clear: &[u8], cell: usize, dir: usize) -> bool
-    requires { ⌜ Floor w h (now words) × ((4 * (w * h) ≤ length (now clear)) × ((cell < w * h) × (dir < 4))) ⌝ }
-    ensures { λ r. ⌜ r ≡ eqb (getD (now (clear .entry)) (4 * cell + dir) 0) (byNext (board w h (now (words .entry))) w (now (clear .entry)) (placeOf w cell) dir) ⌝ }
+// Whether a chunk's clearances in direction dir are what the next cells' make them.
+fn chunk_matches(
+    words: &[u64],
+    w: usize,
+    h: usize,
+    clear: &[u8],
+    cell: usize,
+    count: usize,
+    dir: usize,
+) -> bool
+    requires { ⌜ Floor w h (now words) × ((4 * (w * h) ≤ length (now clear)) × (Chunk w h cell count × (dir < 4))) ⌝ }
+    ensures { λ r. ⌜ Tells (ChunkAgrees w h (now (words .entry)) (now (clear .entry)) dir cell count) r ⌝ }
 {
-    let x = cell % w;
-    let y = cell / w;
-    let row = floor::row_of(words, w, h, y);
-    clearance(clear, w, x, y, dir) == clearance_by_next(words, row, w, h, clear, x, y, dir)
+    let steps = step_bits(words, w, h, cell, dir);
+    let turns = turn_bits(words, w, h, cell, dir);
+    let mut i = 0;
+    while i < count {
+        let m = by_bits(clear, w, cell + i, dir, bit(steps, i), bit(turns, i));
+        if clear[4 * (cell + i) + dir] as usize == m {
+            i += 1;
+        } else {
+            return false;
+        }
+    }
+    true
+}
+
+// Whether all clearances in direction dir are what the next cells' make them.
+fn way_matches(words: &[u64], w: usize, h: usize, clear: &[u8], dir: usize) -> bool
+    requires { ⌜ Floor w h (now words) × ((4 * (w * h) ≤ length (now clear)) × (dir < 4)) ⌝ }
+    ensures { λ r. ⌜ Tells (WayAgrees w h (now (words .entry)) (now (clear .entry)) dir (w * h)) r ⌝ }
+{
+    let mut cell = 0;
+    while cell < w * h {
+        let count = span(w, h, cell);
+        if chunk_matches(words, w, h, clear, cell, count, dir) {
+            cell += count;
+        } else {
+            return false;
+        }
+    }
+    true
 }
 
 // Whether the list holds the clearances of all cells. It has four entries to a cell.
@@ -152,10 +311,10 @@ pub fn clearances_match(words: &[u64], w: usize, h: usize, clear: &[u8]) -> bool
     requires { ⌜ Floor w h (now words) × (length (now clear) ≡ 4 * (w * h)) ⌝ }
     ensures { λ r. ⌜ Tells (Cleared w h (now (words .entry)) (now (clear .entry))) r ⌝ }
 {
-    let mut i = 0;
-    while i < 4 * (w * h) {
-        if one_matches(words, w, h, clear, i / 4, i % 4) {
-            i += 1;
+    let mut dir = 0;
+    while dir < 4 {
+        if way_matches(words, w, h, clear, dir) {
+            dir += 1;
         } else {
             return false;
         }
@@ -174,6 +333,39 @@ fn is_entry(list: &[u16], k: usize, cell: usize) -> bool
     }
 }
 
+// How many turning points are listed once those of a chunk are looked for from entry k on; one more than the entries if one is not there.
+fn chunk_listed(
+    words: &[u64],
+    w: usize,
+    h: usize,
+    corners: &[u16],
+    cell: usize,
+    count: usize,
+    k: usize,
+) -> usize
+    requires ready { ⌜ Floor w h (now words) × Chunk w h cell count ⌝ }
+    requires before { ⌜ Read (cornerCell w h (now words)) (now corners) cell k ⌝ }
+    ensures { λ r. ⌜ Told (cornerCell w h (now (words .entry))) (now (corners .entry)) (cell + count) r ⌝ }
+{
+    let mask = corner_bits(words, w, h, cell);
+    if mask == 0 {
+        return k;
+    }
+    let mut to = k;
+    let mut i = 0;
+    while i < count {
+        if bit(mask, i) {
+            if is_entry(corners, to, cell + i) {
+                to += 1;
+            } else {
+                return corners.len() + 1;
+            }
+        }
+        i += 1;
+    }
+    to
+}
+
 // Whether the list is exactly the turning points, ascending.
 pub fn corners_match(words: &[u64], w: usize, h: usize, corners: &[u16]) -> bool
     requires { ⌜ Floor w h (now words) ⌝ }
@@ -182,14 +374,12 @@ pub fn corners_match(words: &[u64], w: usize, h: usize, corners: &[u16]) -> bool
     let mut k = 0;
     let mut cell = 0;
     while cell < w * h {
-        if corner_cell(words, w, h, cell) {
-            if is_entry(corners, k, cell) {
-                k += 1;
-            } else {
-                return false;
-            }
+        let count = span(w, h, cell);
+        k = chunk_listed(words, w, h, corners, cell, count, k);
+        if corners.len() < k {
+            return false;
         }
-        cell += 1;
+        cell += count;
     }
     k == corners.len()
 }

@@ -1,56 +1,50 @@
 -- `marks::corners_match` meets its contract: the loop's invariant: the first k entries are the turning points among the cells passed. Assumes nothing.
-use Prim.Native.Nat.{_-_, _*_, _≤_}
-use mathlib.Core.Logic.{⊎-elim}
-use mathlib.Core.Path.{_≡_, sym, _∙_}
+use Prim.Native.Nat.{_-_, _*_, _%_, _≤_}
+use mathlib.Core.Path.{_≡_}
 use native.Mathlib.Omega.{arith}
-use denote.Ref.{now}
 use borrow.Author.Needs.{needs}
 use Rattle.floor.proofs.Tables.{missing}
-use Rattle.ground.proofs.Logic.{not-both}
+use Rattle.marks.specs.Listing.{Read}
 use Rattle.marks.specs.Marks.{cornerCell}
-use Rattle.marks.proofs.Selects.{select-few}
-use Rattle.marks.proofs.Listed.{Read, none-read, read-passed, read-taken, read-entry, read-all}
+use Rattle.marks.proofs.Chunks.{chunk-ends, next-begins, first-begins}
+use Rattle.marks.proofs.Listed.{none-read, read-all}
 use Rattle.marks.proofs.corners_match.Statement.{statement}
 use Rattle.marks.proofs.corners_match.Tie as tie
 
 abbrev Inv-loop : tie.InvT-loop
-Inv-loop words w h corners k₀ cell₀ k cell = (cell ≤ w * h) × Read (cornerCell w h words) corners cell k
+Inv-loop words w h corners k₀ cell₀ k cell = (cell ≤ w * h) × (cell % w % 64 ≡ 0) × Read (cornerCell w h words) corners cell k
 
 abbrev μ-loop : tie.MeasureT-loop
 μ-loop words w h corners k₀ cell₀ k cell = w * h - cell
 
 loop-holds : tie.Need-loop-holds Inv-loop μ-loop
-loop-holds c = (omega arith, none-read _ _)
+loop-holds c = (omega arith, first-begins _ (c .before .before .pre .some-width), none-read _ _)
 
-add-k : tie.Need-add-k Inv-loop μ-loop
-add-k c =
-    let a = c .before .before .before .before .before .before .before .before .args in
-    let l = c .before .before .before .before .before .loop in
-    omega (arith, l .inv .1 .count, select-few (cornerCell (a .w) (a .h) (now (a .words))) (l .cell))
+chunk-listed-requires : tie.Need-chunk-listed-requires Inv-loop μ-loop
+chunk-listed-requires c κs =
+    let b = c .before .before in
+    ((b .before .before .before .pre, c .span .ensures .chunk), b .loop .inv .2)
 
 returns : tie.Need-returns Inv-loop μ-loop
 returns c =
-    let s = c .before .before .before in
-    missing (λ e. not-both
-    (read-entry _ _ _ _ (s .before .before .loop .inv .1) _ (s .before .loop-test .taken) (sym (s .corner-cell .ensures) ∙ c .before .before .if1 .taken) e)
-    (sym (c .before .is-entry .ensures) ∙ c .if2 .left))
+    let b = c .before in
+    missing (b .chunk-listed .ensures .refused (c .if1 .taken) _ (chunk-ends (b .before .span .ensures .chunk)))
+
+loop-less : tie.Need-loop-less Inv-loop μ-loop
+loop-less c =
+    let s = c .before .before .span .ensures in
+    omega (arith, s .some, chunk-ends (s .chunk))
 
 loop-again : tie.Need-loop-again Inv-loop μ-loop
 loop-again c =
-    let i = c .before .before .before .loop .inv .1 in
-    let e = c .before .corner-cell .ensures in (
-      omega arith,
-      ⊎-elim
-          (λ a. rw (a .3) (read-taken _ _ _ _ i (sym e ∙ a .0 .taken) (sym (a .1 .ensures) ∙ a .2 .taken)))
-          (λ a. rw (a .1) (read-passed _ _ _ _ i (sym e ∙ a .0 .left)))
-          (c .if1 .came),
-    )
+    let s = c .before .before .span .ensures in
+    (chunk-ends (s .chunk), next-begins s, c .before .chunk-listed .ensures .read (c .if1 .left))
 
 returns-2 : tie.Need-returns-2 Inv-loop μ-loop
 returns-2 c =
     let a = c .before .before .before .before .args in
     let e : c .before .loop .cell ≡ a .w * a .h = omega arith in
-    read-all _ _ _ _ (rw e at (c .before .loop .inv .1))
+    read-all _ _ _ _ (rw e at (c .before .loop .inv .2))
 
 pub corners-match-spec : {M : Type 1} → statement M
 corners-match-spec =
@@ -60,11 +54,10 @@ corners-match-spec =
     μ-loop
     loop-holds
     (search needs)
-    (λ c κs. (c .before .before .before .before .pre, search needs))
-    (search needs)
-    add-k
+    (λ c κs. (c .loop-test .taken, c .before .loop .inv .1))
+    chunk-listed-requires
     returns
-    (search needs)
-    (search needs)
+    (λ c. omega (arith, chunk-ends (c .before .before .span .ensures .chunk)))
+    loop-less
     loop-again
     returns-2)

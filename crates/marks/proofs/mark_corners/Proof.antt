@@ -1,63 +1,60 @@
 -- `marks::mark_corners` meets its contract: the loop's invariant: the turning points among the cells passed are written, and k is their number. Assumes nothing.
-use Prim.Native.Nat.{_-_, _*_, _≤_}
-use mathlib.Core.Logic.{⊎-elim}
-use mathlib.Core.Path.{_≡_, sym, _∙_}
+use Prim.Native.Nat.{_-_, _*_, _%_, _≤_}
+use mathlib.Core.Path.{_≡_}
 use native.Mathlib.Omega.{arith}
 use denote.Ref.{now}
+use lib.ListN.{length}
 use borrow.Author.Needs.{needs}
+use Rattle.marks.specs.Listing.{Written}
 use Rattle.marks.specs.Marks.{cornerCell}
-use Rattle.marks.proofs.Selects.{select-few}
-use Rattle.marks.proofs.Listed.{Written, none-written, write-passed, write-long, write-room, write-taken}
+use Rattle.marks.proofs.Selects.{select-grows}
+use Rattle.marks.proofs.Chunks.{chunk-ends, next-begins, first-begins}
+use Rattle.marks.proofs.Listed.{none-written, write-long, write-on, written-on}
 use Rattle.marks.proofs.mark_corners.Statement.{statement}
 use Rattle.marks.proofs.mark_corners.Tie as tie
 
 abbrev Inv-loop : tie.InvT-loop
-Inv-loop words w h corners₀ k₀ cell₀ corners k cell = (cell ≤ w * h) × Written (cornerCell w h words) corners₀ cell corners k
+Inv-loop words w h corners₀ k₀ cell₀ corners k cell = (cell ≤ w * h) × (cell % w % 64 ≡ 0) × Written (cornerCell w h words) corners₀ cell corners k
 
 abbrev μ-loop : tie.MeasureT-loop
 μ-loop words w h corners₀ k₀ cell₀ corners k cell = w * h - cell
 
 loop-holds : tie.Need-loop-holds Inv-loop μ-loop
-loop-holds c = (omega arith, none-written _ _)
+loop-holds c = (omega arith, first-begins _ (c .before .before .pre .0 .some-width), none-written _ _)
 
--- no more turning points than cells are passed
-few : (c : tie.Then1 Inv-loop μ-loop) → c .before .before .before .loop .k ≤ c .before .before .before .loop .cell
-few c =
-    let a = c .before .before .before .before .before .before .args in
-    let l = c .before .before .before .loop in
-    omega (arith, l .inv .1 .count, select-few (cornerCell (a .w) (a .h) (now (a .words))) (l .cell))
+-- the list keeps its length
+long : (c : tie.At-loop Inv-loop μ-loop) → length (c .loop .corners) ≡ length (now (c .before .before .before .args .corners))
+long c =
+    let a = c .before .before .before .args in
+    let i = c .loop .inv in
+    write-long _ _ _ _ _ (i .2)
+    (omega (arith, c .before .before .before .pre .1, select-grows (cornerCell (a .w) (a .h) (now (a .words))) (c .loop .cell) (a .w * a .h) (i .0)))
 
-slice-write-corners : tie.Need-slice-write-corners Inv-loop μ-loop
-slice-write-corners c =
-    let s = c .before .before .before .before .before .before in
-    write-room _ _ _ _ _ (c .before .before .before .loop .inv .1) _ (c .before .before .loop-test .taken) (sym (c .before .corner-cell .ensures) ∙ c .if1 .taken) (s .pre .1)
+mark-chunk-requires : tie.Need-mark-chunk-requires Inv-loop μ-loop
+mark-chunk-requires c κs =
+    let b = c .before .before .before in
+    let p = b .before .before .before .pre in
+    ((p .0, (c .before .span .ensures .chunk, omega (arith, long b, p .1))), write-on _ _ _ _ _ (b .loop .inv .2))
+
+loop-less : tie.Need-loop-less Inv-loop μ-loop
+loop-less c =
+    let s = c .before .before .before .before .span .ensures in
+    omega (arith, s .some, chunk-ends (s .chunk))
 
 loop-again : tie.Need-loop-again Inv-loop μ-loop
 loop-again c =
-    let s = c .before .before .before .before .before .before in
-    let i = c .before .before .before .loop .inv .1 in
-    let e = c .before .corner-cell .ensures in (
-      omega arith,
-      ⊎-elim
-          (λ a. rw (a .1, a .2) (write-taken _ _ _ _ _ i _ (c .before .before .loop-test .taken) (sym e ∙ a .0 .taken) (s .pre .1)))
-          (λ a. rw (a .1, a .2) (write-passed _ _ _ _ _ i (sym e ∙ a .0 .left)))
-          (c .if1 .came),
-    )
-
--- after the loop all are written
-whole : (c : tie.After-loop Inv-loop μ-loop) →
-    let a = c .before .before .before .before .args in
-    Written (cornerCell (a .w) (a .h) (now (a .words))) (now (a .corners)) (a .w * a .h) (c .before .loop .corners) (c .before .loop .k)
-whole c =
-    let a = c .before .before .before .before .args in
-    let e : c .before .loop .cell ≡ a .w * a .h = omega arith in
-    rw e at (c .before .loop .inv .1)
+    let b = c .before .before .before .before in
+    let s = b .span .ensures in
+    (chunk-ends (s .chunk), next-begins s, written-on _ _ _ _ _ (b .before .before .loop .inv .2) _ _ _ (omega arith) (c .before .before .mark-chunk .ensures))
 
 same-length : tie.Need-same-length Inv-loop μ-loop
-same-length c = write-long _ _ _ _ _ (whole c) (c .before .before .before .before .pre .1)
+same-length c = long (c .before)
 
 returns : tie.Need-returns Inv-loop μ-loop
-returns c = whole c .list
+returns c =
+    let a = c .before .before .before .before .args in
+    let e : c .before .loop .cell ≡ a .w * a .h = omega arith in
+    rw e at (c .before .loop .inv .2 .list)
 
 pub mark-corners-spec : {M : Type 1} → statement M
 mark-corners-spec =
@@ -67,13 +64,10 @@ mark-corners-spec =
     μ-loop
     loop-holds
     (search needs)
-    (λ c κs. (c .before .before .before .before .pre .0, search needs))
-    (search needs)
-    (λ c. omega (arith, few c))
-    slice-write-corners
-    (λ c. omega (arith, few c))
-    (search needs)
-    (search needs)
+    (λ c κs. (c .loop-test .taken, c .before .loop .inv .1))
+    mark-chunk-requires
+    (λ c. omega (arith, chunk-ends (c .before .before .before .before .span .ensures .chunk)))
+    loop-less
     loop-again
     same-length
     returns)

@@ -1,62 +1,49 @@
--- `marks::mark_from_first` meets its contract: the loop's invariant: N and W are marked for the cells passed. Assumes nothing.
-use Prim.Native.Nat.{_+_, _-_, _*_, _≤_}
-use mathlib.Core.Path.{_≡_, refl}
+-- `marks::mark_from_first` meets its contract: the loop's invariant: the direction is marked for the cells passed. Assumes nothing.
+use Prim.Native.Nat.{_-_, _*_, _%_, _≤_}
+use mathlib.Core.Path.{_≡_}
 use native.Mathlib.Omega.{arith}
-use denote.Ref.{now}
 use borrow.Author.Needs.{needs}
-use Rattle.marks.proofs.Marked.{Marking, none-marked, all-marked, turned, mark-ready, mark-more}
+use Rattle.marks.specs.Marking.{Marking}
+use Rattle.marks.proofs.Chunks.{chunk-ends, next-begins, first-begins}
+use Rattle.marks.proofs.Marked.{none-marked, marked-on}
 use Rattle.marks.proofs.mark_from_first.Statement.{statement}
 use Rattle.marks.proofs.mark_from_first.Tie as tie
 
 abbrev Inv-loop : tie.InvT-loop
-Inv-loop words w h clear₀ cell₀ clear cell = (cell ≤ w * h) × Marking w h words 0 cell 3 cell clear₀ clear
+Inv-loop words w h clear₀ dir cell₀ clear cell = (cell ≤ w * h) × (cell % w % 64 ≡ 0) × Marking w h words dir cell clear₀ clear
 
 abbrev μ-loop : tie.MeasureT-loop
-μ-loop words w h clear₀ cell₀ clear cell = w * h - cell
+μ-loop words w h clear₀ dir cell₀ clear cell = w * h - cell
 
 loop-holds : tie.Need-loop-holds Inv-loop μ-loop
-loop-holds c = (omega arith, none-marked 0 3 _)
+loop-holds c = (omega arith, first-begins _ (c .before .before .pre .0 .some-width), none-marked _ _)
 
-mark-one-requires : tie.Need-mark-one-requires Inv-loop μ-loop
-mark-one-requires c κs =
-    let p = c .before .before .before .before .before .pre in
-    mark-ready (c .before .before .loop .inv .1) _ (c .before .loop-test .taken) refl (omega arith) (omega arith) (p .0) (p .1)
-
--- between the two calls
-half : (c : tie.After-mark-one Inv-loop μ-loop) →
-    let a = c .before .before .before .before .before .before .args in
-    let cell = c .before .before .before .loop .cell in
-    Marking (a .w) (a .h) (now (a .words)) 3 cell 0 (cell + 1) (now (a .clear)) (c .mark-one .last .1 .1 .1 .0)
-half c =
-    let p = c .before .before .before .before .before .before .pre in
-    turned
-    (mark-more (c .before .before .before .loop .inv .1) _ (c .before .before .loop-test .taken) refl (omega arith) (omega arith)
-    (λ e. omega arith) (p .1) _ (c .mark-one .ensures) _ (omega arith))
-
-mark-one-requires-2 : tie.Need-mark-one-requires-2 Inv-loop μ-loop
-mark-one-requires-2 c κs =
+mark-up-requires : tie.Need-mark-up-requires Inv-loop μ-loop
+mark-up-requires c κs =
     let b = c .before .before .before in
-    let p = b .before .before .before .before .before .before .pre in
-    mark-ready (half b) _ (b .before .before .loop-test .taken) refl (omega arith) (omega arith) (p .0) (p .1)
+    let p = b .before .before .before .pre in
+    let m = b .loop .inv .2 in
+    ((p .0, (omega (arith, p .1 .0, m .as-long), (c .before .span .ensures .chunk, p .1 .1))), m .right)
+
+loop-less : tie.Need-loop-less Inv-loop μ-loop
+loop-less c =
+    let s = c .before .before .before .before .span .ensures in
+    omega (arith, s .some, chunk-ends (s .chunk))
 
 loop-again : tie.Need-loop-again Inv-loop μ-loop
 loop-again c =
-    let b = c .before .before .before .before .before .before in
-    let p = b .before .before .before .before .before .before .pre in (
-      omega arith,
-      turned
-          (mark-more (half b) _ (b .before .before .loop-test .taken) refl (omega arith) (omega arith)
-          (λ e. omega arith) (p .1) _ (c .before .before .mark-one2 .ensures) _ (omega arith)),
-    )
+    let b = c .before .before .before .before in
+    let s = b .span .ensures in
+    (chunk-ends (s .chunk), next-begins s, marked-on (b .before .before .loop .inv .2) (c .before .before .mark-up .ensures))
 
 same-length : tie.Need-same-length Inv-loop μ-loop
-same-length c = c .before .loop .inv .1 .as-long
+same-length c = c .before .loop .inv .2 .as-long
 
 returns : tie.Need-returns Inv-loop μ-loop
 returns c =
     let a = c .before .before .before .before .args in
     let e : c .before .loop .cell ≡ a .w * a .h = omega arith in
-    all-marked (omega arith) (omega arith) (rw e at (c .before .loop .inv .1))
+    rw e at (c .before .loop .inv .2)
 
 pub mark-from-first-spec : {M : Type 1} → statement M
 mark-from-first-spec =
@@ -66,10 +53,10 @@ mark-from-first-spec =
     μ-loop
     loop-holds
     (search needs)
-    mark-one-requires
-    mark-one-requires-2
-    (search needs)
-    (search needs)
+    (λ c κs. (c .loop-test .taken, c .before .loop .inv .1))
+    mark-up-requires
+    (λ c. omega (arith, chunk-ends (c .before .before .before .before .span .ensures .chunk)))
+    loop-less
     loop-again
     same-length
     returns)
