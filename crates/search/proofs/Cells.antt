@@ -103,6 +103,10 @@ module _ (C : List ℕ) (up : Ascending C) where
       go (no l) (yes m) = absurd (omega (arith, up j i m hi))
       go (no l) (no m) = omega arith
 
+  -- The index of a cell that stands there.
+  pub index-of-entry : (i : ℕ) → i < length C → indexOf C (getD C i 0) ≡ i
+  index-of-entry i h = index-first C (getD C i 0) i h refl (λ j l e. omega (arith, up j i l h))
+
   module _ (cell at : ℕ) (b : Bound C cell at) where
     -- A search by halves has come to the cell: this is its index.
     pub bound-found : at < length C → getD C at 0 ≡ cell → at ≡ indexOf C cell
