@@ -23,7 +23,7 @@ use Rattle.effort.specs.Effort.{Far}
 use Rattle.effort.proofs.Bridge.{far-few, start-far}
 use Rattle.search.specs.declared.Trip.{Trip}
 use Rattle.search.specs.Columns.{columnOf, Label, Settled, Next, Only, Put}
-use Rattle.search.specs.Places.{cellOf, apart, TwoCells}
+use Rattle.search.specs.Places.{cellAt, apart, TwoCells}
 use Rattle.search.specs.Chart.{Chart, chart, linkAt, linkCount, net}
 use Rattle.search.specs.Search.{labelsOf, Ready, Run}
 use Rattle.search.proofs.Columns.{column-length}
@@ -41,7 +41,7 @@ pub record Best (C S E : List ℕ) (t : Trip) (W : List ℕ) (v j best : ℕ) : 
   pub from : 0 < best → LeadsTo C t W v best × ((i : ℕ) × (i < j) × (linkAt (chart C S E t W) v i ≡ best))
   pub least :
       (i : ℕ) → i < j → LeadsTo C t W v (linkAt (chart C S E t W) v i) →
-      (0 < best) × (cellOf C t (best - 1) ≤ cellOf C t (linkAt (chart C S E t W) v i - 1))
+      (0 < best) × (cellAt C t (best - 1) ≤ cellAt C t (linkAt (chart C S E t W) v i - 1))
 
 module _ {C S E : List ℕ} {t : Trip} {W : List ℕ} {v : ℕ} where
   -- before the first link there is none
@@ -53,7 +53,7 @@ module _ {C S E : List ℕ} {t : Trip} {W : List ℕ} {v : ℕ} where
   best-skip {j} {best} b never = record { from = λ h. let (l, (i, k, q)) = b .from h in (l, (i, omega arith, q)); least = λ i h l. by i (decLt i j) h l }
     where
       by : (i : ℕ) → Dec (i < j) → i < j + 1 → LeadsTo C t W v (linkAt (chart C S E t W) v i) →
-          (0 < best) × (cellOf C t (best - 1) ≤ cellOf C t (linkAt (chart C S E t W) v i - 1))
+          (0 < best) × (cellAt C t (best - 1) ≤ cellAt C t (linkAt (chart C S E t W) v i - 1))
       by i (yes k) h l = b .least i k l
       by i (no k) h l =
           let e : i ≡ j = omega arith in
@@ -76,19 +76,19 @@ module _ {C S E : List ℕ} {t : Trip} {W : List ℕ} {v : ℕ} where
       some = ⊎-elim (λ (k : (0 < best) × (r ≡ best)). omega arith) (λ (k : r ≡ linkAt (chart C S E t W) v j). omega (arith, l .some)) (s .one-of)
 
       by : (i : ℕ) → Dec (i < j) → i < j + 1 → LeadsTo C t W v (linkAt (chart C S E t W) v i) →
-          (0 < r) × (cellOf C t (r - 1) ≤ cellOf C t (linkAt (chart C S E t W) v i - 1))
+          (0 < r) × (cellAt C t (r - 1) ≤ cellAt C t (linkAt (chart C S E t W) v i - 1))
       by i (yes k) h m = let (p, q) = b .least i k m in (some, omega (arith, s .first p))
       by i (no k) h m =
           let e : i ≡ j = omega arith in
-          (some, subst (λ (x : ℕ). cellOf C t (r - 1) ≤ cellOf C t (linkAt (chart C S E t W) v x - 1)) (sym e) (s .second))
+          (some, subst (λ (x : ℕ). cellAt C t (r - 1) ≤ cellAt C t (linkAt (chart C S E t W) v x - 1)) (sym e) (s .second))
 
 -- what the code compares tells whether a link leads to v
 pub leads-tells :
     (C : List ℕ) (t : Trip) (W : List ℕ) (v link : ℕ) {settled near far a b leg : ℕ} → (link ≡ 0 → ⊥) → settled ≡ settledAt t W (link - 1) → (settled ≡ 0 → ⊥) →
-    near ≡ labelAt t W (link - 1) → far ≡ labelAt t W v → a ≡ cellOf C t (link - 1) → b ≡ cellOf C t v → leg ≡ apart (t .w) a b →
+    near ≡ labelAt t W (link - 1) → far ≡ labelAt t W v → a ≡ cellAt C t (link - 1) → b ≡ cellAt C t v → leg ≡ apart (t .w) a b →
     Tells (LeadsTo C t W v link) (eqb (near + leg) far)
 leads-tells C t W v link {settled} {near} {far} {a} {b} {leg} some s more n f qa qb q =
-    let q′ : leg ≡ apart (t .w) (cellOf C t (link - 1)) (cellOf C t v) = rw (qa, qb) at q in
+    let q′ : leg ≡ apart (t .w) (cellAt C t (link - 1)) (cellAt C t v) = rw (qa, qb) at q in
     record {
       yes = λ h. let e = eqb-true (near + leg) far h in record { some = omega arith; settled = omega arith; adds = omega arith };
       no = λ h l. eqb-false (near + leg) far h (let z = l .adds in omega arith);
@@ -176,8 +176,8 @@ module _ {a : Journey} {C S E : List ℕ} {t : Trip} {W : List ℕ} (k : Walked 
 pub data Traced (a : Journey) (C : List ℕ) (t : Trip) (D N : List ℕ) : ℕ → List ℕ → Type 0 where
   there : Traced a C t D N (t .to) []
   on : {v u : ℕ} {rest : List ℕ} →
-      u < length N → getD N u 0 ≡ v + 1 → getD D u 0 < getD D v 0 → cellOf C t v ≢ a .start →
-      Before (a .w) (a .h) (a .words) (a .start) (a .goal) (cellOf C t v) (cellOf C t u) → Traced a C t D N v rest →
+      u < length N → getD N u 0 ≡ v + 1 → getD D u 0 < getD D v 0 → cellAt C t v ≢ a .start →
+      Before (a .w) (a .h) (a .words) (a .start) (a .goal) (cellAt C t v) (cellAt C t u) → Traced a C t D N v rest →
       Traced a C t D N u (v ∷ rest)
 
 module _ {a : Journey} {C : List ℕ} {t : Trip} {D : List ℕ} where
@@ -195,9 +195,9 @@ module _ {a : Journey} {C : List ℕ} {t : Trip} {D : List ℕ} where
 
   -- what leads to u, with these places behind it, is the chain to the goal
   pub traced-chain :
-      {N : List ℕ} {u : ℕ} {rest ps : List ℕ} → ChainTo (a .w) (a .h) (a .words) (a .start) (a .goal) (cellOf C t u) ps →
+      {N : List ℕ} {u : ℕ} {rest ps : List ℕ} → ChainTo (a .w) (a .h) (a .words) (a .start) (a .goal) (cellAt C t u) ps →
       Traced a C t D N u rest →
-      ChainTo (a .w) (a .h) (a .words) (a .start) (a .goal) (cellOf C t (t .to)) (ps ++ cellsAt C t rest)
+      ChainTo (a .w) (a .h) (a .words) (a .start) (a .goal) (cellAt C t (t .to)) (ps ++ cellsAt C t rest)
   traced-chain {ps = ps} c there = rw (append-nil ps) c
   traced-chain {ps = ps} c (on {v = v} {rest = rest} h e l n b r) =
       rw append-assoc at (traced-chain (ChainTo.back n b c) r)
@@ -208,7 +208,7 @@ pub record Tracing (a : Journey) (C : List ℕ) (t : Trip) (W W′ : List ℕ) (
   pub traced : Traced a C t (columnOf (t .k + 2) W Label) (columnOf (t .k + 2) W′ Next) v rest
   pub far : Len
   pub shortest : Far (a .w) (a .h) (a .words) (a .start) (a .goal) far
-  pub sum : (m : Len) → Far (a .w) (a .h) (a .words) (a .start) (cellOf C t v) m → m ⊕ l ≡ far
+  pub sum : (m : Len) → Far (a .w) (a .h) (a .words) (a .start) (cellAt C t v) m → m ⊕ l ≡ far
 
 module _ {a : Journey} {C S E : List ℕ} {t : Trip} {W : List ℕ} (k : Walked a C S E t W) where
   -- at the goal nothing is behind
@@ -223,14 +223,14 @@ module _ {a : Journey} {C S E : List ℕ} {t : Trip} {W : List ℕ} (k : Walked 
         sum = λ m g. same-pair (let q = shortest-unique g f in ap (λ (x : Len). x .straight + 0) q ∙ omega arith) (let q = shortest-unique g f in ap (λ (x : Len). x .diagonal + 0) q ∙ omega arith);
       }
 
-  module _ {W′ : List ℕ} {v : ℕ} {l : Len} (s : Tracing a C t W W′ v l) {u : ℕ} (p : Prior a C S E t W v u) {leg : Len} (long : leg ≡ octile (placeOf (t .w) (cellOf C t u)) (placeOf (t .w) (cellOf C t v))) where
+  module _ {W′ : List ℕ} {v : ℕ} {l : Len} (s : Tracing a C t W W′ v l) {u : ℕ} (p : Prior a C S E t W v u) {leg : Len} (long : leg ≡ octile (placeOf (t .w) (cellAt C t u)) (placeOf (t .w) (cellAt C t v))) where
     -- one leg more makes the same length
     leg-sum : (p .before .nearer) ⊕ (l ⊕ leg) ≡ s .far
     leg-sum =
         let q = s .sum (p .before .far) (p .before .shortest) in
         let r : p .before .nearer ⊕ leg ≡ p .before .far =
         ap (λ (x : Len). p .before .nearer ⊕ x) long
-        ∙ ap (λ (x : ℕ). p .before .nearer ⊕ octile (placeOf x (cellOf C t u)) (placeOf x (cellOf C t v))) (k .charted .width)
+        ∙ ap (λ (x : ℕ). p .before .nearer ⊕ octile (placeOf x (cellAt C t u)) (placeOf x (cellAt C t v))) (k .charted .width)
         ∙ p .before .precedes .sum in
         same-pair (let x = ap (λ (y : Len). y .straight) q in let z = ap (λ (y : Len). y .straight) r in omega arith)
         (let x = ap (λ (y : Len). y .diagonal) q in let z = ap (λ (y : Len). y .diagonal) r in omega arith)
@@ -269,7 +269,7 @@ module _ {a : Journey} {C S E : List ℕ} {t : Trip} {W : List ℕ} (k : Walked 
       let z = start-far (a .w) (a .h) (a .words) (a .start) (a .goal) (trip (k .charted)) in
       let q = s .sum 𝟎 (subst (λ (c : ℕ). Far (a .w) (a .h) (a .words) (a .start) c 𝟎) (sym e) z) in
       let same : s .far ≡ lenOf r = same-pair (let x = ap (λ (y : Len). y .straight) q in omega arith) (let x = ap (λ (y : Len). y .diagonal) q in omega arith) in
-      let first : ChainTo (a .w) (a .h) (a .words) (a .start) (a .goal) (cellOf C t (t .from)) (cellOf C t (t .from) ∷ []) =
+      let first : ChainTo (a .w) (a .h) (a .words) (a .start) (a .goal) (cellAt C t (t .from)) (cellAt C t (t .from) ∷ []) =
       subst (λ (c : ℕ). ChainTo (a .w) (a .h) (a .words) (a .start) (a .goal) c (c ∷ [])) (sym e) ChainTo.here in
       record {
         places = t .from ∷ s .rest;

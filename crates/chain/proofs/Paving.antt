@@ -13,7 +13,7 @@ use Rattle.ground.specs.Line.{line}
 use Rattle.marks.specs.Lists.{written}
 use Rattle.search.specs.declared.Trip.{Trip}
 use Rattle.search.specs.Columns.{columnOf, Label, Next}
-use Rattle.search.specs.Places.{cellOf}
+use Rattle.search.specs.Places.{cellAt}
 use Rattle.line.specs.Cells.{after, legs, steps, Cell, LineWritten}
 use Rattle.chain.specs.Route.{RouteOf, cellsOf}
 use Rattle.chain.specs.Chain.{Journey, Walked, LeadsAlong, there, on, cellsAt, Linked, Paved}
@@ -78,25 +78,25 @@ module _ {C : List ℕ} {t : Trip} {W places : List ℕ} where
   module _ {route₀ : List ℕ} {v next : ℕ} {route : List ℕ} (p : Paving C t W route₀ places v next route) where
     module _ (u : ℕ) (other : v ≢ t .to) (entry : getD (columnOf (t .k + 2) W Next) v 0 ≡ u + 1) where
       -- the leg has room
-      pub leg-room : next + steps (placeOf (t .w) (cellOf C t v)) (placeOf (t .w) (cellOf C t u)) ≤ size C t places
+      pub leg-room : next + steps (placeOf (t .w) (cellAt C t v)) (placeOf (t .w) (cellAt C t u)) ≤ size C t places
       leg-room =
           let (l, (tail, e, r)) = along-next u other entry (p .along) in
-          let s = placeOf (t .w) (cellOf C t v) in
-          let d = placeOf (t .w) (cellOf C t u) in
-          let q = ap (λ (ps : List ℕ). length (legs (t .w) (cellsAt C t ps))) e ∙ length-append (after (t .w) s (line s d)) (legs (t .w) (cellOf C t u ∷ cellsAt C t tail)) in
+          let s = placeOf (t .w) (cellAt C t v) in
+          let d = placeOf (t .w) (cellAt C t u) in
+          let q = ap (λ (ps : List ℕ). length (legs (t .w) (cellsAt C t ps))) e ∙ length-append (after (t .w) s (line s d)) (legs (t .w) (cellAt C t u ∷ cellsAt C t tail)) in
           let m = line-cells (t .w) s d in
           let z = p .left in
           omega arith
 
       -- written, it leaves the others
       pub paving-next : {r : ℕ} {route′ : List ℕ} →
-          LineWritten (t .w) (placeOf (t .w) (cellOf C t v)) (placeOf (t .w) (cellOf C t u)) route next r route′ → size C t places ≤ length route →
+          LineWritten (t .w) (placeOf (t .w) (cellAt C t v)) (placeOf (t .w) (cellAt C t u)) route next r route′ → size C t places ≤ length route →
           Paving C t W route₀ places u r route′
       paving-next {r} {route′} done room =
           let (l, (tail, e, along)) = along-next u other entry (p .along) in
-          let s = placeOf (t .w) (cellOf C t v) in
-          let d = placeOf (t .w) (cellOf C t u) in
-          let q = ap (λ (ps : List ℕ). length (legs (t .w) (cellsAt C t ps))) e ∙ length-append (after (t .w) s (line s d)) (legs (t .w) (cellOf C t u ∷ cellsAt C t tail)) in
+          let s = placeOf (t .w) (cellAt C t v) in
+          let d = placeOf (t .w) (cellAt C t u) in
+          let q = ap (λ (ps : List ℕ). length (legs (t .w) (cellsAt C t ps))) e ∙ length-append (after (t .w) s (line s d)) (legs (t .w) (cellAt C t u ∷ cellsAt C t tail)) in
           let m = line-cells (t .w) s d in
           let n = done .next in
           let z = p .left in
@@ -106,7 +106,7 @@ module _ {C : List ℕ} {t : Trip} {W places : List ℕ} where
             along = along;
             left = omega arith;
             whole =
-                legs-next (t .w) (cellOf C t v) (cellOf C t u) (cellsAt C t tail) route route′ next r (size C t places) done (omega arith) (omega arith)
+                legs-next (t .w) (cellAt C t v) (cellAt C t u) (cellsAt C t tail) route route′ next r (size C t places) done (omega arith) (omega arith)
                 ∙ ap (λ (ps : List ℕ). take next route ++ (legs (t .w) (cellsAt C t ps) ++ drop (size C t places) route)) (sym e)
                 ∙ p .whole;
           }
@@ -156,7 +156,7 @@ module _ {a : Journey} {C S E : List ℕ} {t : Trip} {W : List ℕ} (k : Walked 
             let f = trip (k .charted) .few-cells in
             omega arith;
         cells = λ i.
-            subst (λ (x : ℕ). Cell x (cellOf C t i % x) (cellOf C t i / x)) (sym (k .charted .width))
-            (cell-of (a .w) (a .h) (cellOf C t i) (trip (k .charted) .few-cells) (cell-place (k .charted) i .inside));
+            subst (λ (x : ℕ). Cell x (cellAt C t i % x) (cellAt C t i / x)) (sym (k .charted .width))
+            (cell-of (a .w) (a .h) (cellAt C t i) (trip (k .charted) .few-cells) (cell-place (k .charted) i .inside));
         room = omega arith;
       }

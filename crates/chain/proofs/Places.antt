@@ -16,7 +16,7 @@ use Rattle.marks.specs.Marks.{cornerCell}
 use Rattle.effort.specs.Effort.{PlaceCell}
 use Rattle.effort.specs.Net.{Startable, apart as weighs}
 use Rattle.effort.proofs.Bridge.{trip-of, start-place, goal-place}
-use Rattle.search.specs.Places.{indexOf, cellOf, apart}
+use Rattle.search.specs.Places.{indexOf, cellAt, apart}
 use Rattle.search.specs.Chart.{Chart, cell}
 use Rattle.search.proofs.Cells.{index-at, ascending-once}
 use Rattle.chain.specs.Charted.{Charted, Used}
@@ -38,17 +38,17 @@ module _ {w h : ℕ} {words : List ℕ} {p : Lists} {start goal : ℕ} {𝓒 : C
 
   -- the cell of a corner's index
   pub cell-corner : (i : ℕ) → i < 𝓒 .trip .k → cell 𝓒 i ≡ getD (p .corners) i 0
-  unfolding cellOf
+  unfolding cellAt
   cell-corner i l = rw (lt-ltb i (𝓒 .trip .k) l, ch .corners)
 
   -- the cell of the start's own place
   pub cell-start : cell 𝓒 (𝓒 .trip .k) ≡ start
-  unfolding cellOf
+  unfolding cellAt
   cell-start = rw (le-ltb (𝓒 .trip .k) (𝓒 .trip .k) (omega arith), eq-eqb (𝓒 .trip .k) (𝓒 .trip .k) refl, ch .start-cell)
 
   -- the cell of every index beyond it, where the goal's own place comes first
   pub cell-beyond : (i : ℕ) → 𝓒 .trip .k < i → cell 𝓒 i ≡ goal
-  unfolding cellOf
+  unfolding cellAt
   cell-beyond i l = rw (le-ltb i (𝓒 .trip .k) (omega arith), ne-eqb i (𝓒 .trip .k) (λ e. omega arith), ch .goal-cell)
 
   -- the cell of the goal's own place

@@ -13,7 +13,7 @@ use Rattle.settling.specs.Labels.{Sound}
 use Rattle.effort.specs.Effort.{Far}
 use Rattle.search.specs.declared.Trip.{Trip}
 use Rattle.search.specs.Columns.{columnOf, Label, Settled, Next}
-use Rattle.search.specs.Places.{cellOf, apart}
+use Rattle.search.specs.Places.{cellAt, apart}
 use Rattle.search.specs.Chart.{chart, net, order}
 use Rattle.search.specs.Search.{labelsOf, Ready}
 use Rattle.line.specs.Cells.{legs, Cell}
@@ -48,13 +48,13 @@ settledAt t W v = getD (columnOf (t .k + 2) W Settled) v 0
 pub record LeadsTo (C : List ℕ) (t : Trip) (W : List ℕ) (v link : ℕ) : Type 0 where
   pub some : 0 < link
   pub settled : 0 < settledAt t W (link - 1)
-  pub adds : labelAt t W (link - 1) + apart (t .w) (cellOf C t (link - 1)) (cellOf C t v) ≡ labelAt t W v
+  pub adds : labelAt t W (link - 1) + apart (t .w) (cellAt C t (link - 1)) (cellAt C t v) ≡ labelAt t W v
 
 -- r is the one of two links with the lesser cell number; the first may be none
 pub record Lesser (C : List ℕ) (t : Trip) (a b r : ℕ) : Type 0 where
   pub one-of : ((0 < a) × (r ≡ a)) ⊎ (r ≡ b)
-  pub first : 0 < a → cellOf C t (r - 1) ≤ cellOf C t (a - 1)
-  pub second : cellOf C t (r - 1) ≤ cellOf C t (b - 1)
+  pub first : 0 < a → cellAt C t (r - 1) ≤ cellAt C t (a - 1)
+  pub second : cellAt C t (r - 1) ≤ cellAt C t (b - 1)
 
 -- v is a settled place no further than the goal
 pub record Reached (t : Trip) (W : List ℕ) (v : ℕ) : Type 0 where
@@ -67,7 +67,7 @@ pub record Prior (a : Journey) (C S E : List ℕ) (t : Trip) (W : List ℕ) (v r
   pub linked : net (chart C S E t W) .Link v r
   pub settled : 0 < settledAt t W r
   pub nearer : labelAt t W r < labelAt t W v
-  pub before : Before (a .w) (a .h) (a .words) (a .start) (a .goal) (cellOf C t v) (cellOf C t r)
+  pub before : Before (a .w) (a .h) (a .words) (a .start) (a .goal) (cellAt C t v) (cellAt C t r)
 
 -- N leads from a place to the place `to` along a list of places: at each but the last it has one more than the next, whose entry in D is
 -- greater
@@ -83,7 +83,7 @@ NextAlong t W = LeadsAlong (columnOf (t .k + 2) W Label) (columnOf (t .k + 2) W 
 -- the cells of a list of places
 abbrev pub cellsAt : List ℕ → Trip → List ℕ → List ℕ
 cellsAt C t [] = []
-cellsAt C t (i ∷ is) = cellOf C t i ∷ cellsAt C t is
+cellsAt C t (i ∷ is) = cellAt C t i ∷ cellsAt C t is
 
 -- the column NEXT leads along the chain back from the goal, whose legs make the length r, the shortest
 pub record Linked (a : Journey) (C : List ℕ) (t : Trip) (W : List ℕ) (r : Length) : Type 0 where
@@ -100,5 +100,5 @@ pub record Paved (C : List ℕ) (t : Trip) (W : List ℕ) (size : ℕ) (places :
   pub columns : 6 * (t .k + 2) ≤ length W
   pub along : NextAlong t W places
   pub start : t .start < 65536
-  pub cells : (i : ℕ) → Cell (t .w) (cellOf C t i % t .w) (cellOf C t i / t .w)
+  pub cells : (i : ℕ) → Cell (t .w) (cellAt C t i % t .w) (cellAt C t i / t .w)
   pub room : length (legs (t .w) (cellsAt C t places)) < size

@@ -11,7 +11,7 @@ ghost use Rattle.floor.specs.Words.{placeOf};
 ghost use Rattle.ground.specs.Kind.{octile};
 ghost use Rattle.marks.specs.Lists.{written};
 ghost use Rattle.search.specs.Columns.{Next, Only};
-ghost use Rattle.search.specs.Places.{cellOf, TwoCells};
+ghost use Rattle.search.specs.Places.{cellAt, TwoCells};
 ghost use Rattle.search.specs.Tree.{Room};
 ghost use Rattle.line.specs.Cells.{steps, legs, Cell, LineWritten};
 ghost use Rattle.chain.specs.Chain.{Journey, Walked, LeadsTo, Lesser, Reached, Prior, cellsAt, Linked, Paved};
@@ -30,7 +30,7 @@ fn size(x: u32) -> usize
 fn leads_to(corners: &[u16], t: Trip, work: &[u32], v: usize, link: usize) -> bool
     requires room { ⌜ Room (now corners) t (now work) ⌝ }
     requires inside { ⌜ (v < t .k + 2) × (link ≤ t .k + 2) ⌝ }
-    requires cells { ⌜ TwoCells (t .w) (cellOf (now corners) t (link - 1)) (cellOf (now corners) t v) ⌝ }
+    requires cells { ⌜ TwoCells (t .w) (cellAt (now corners) t (link - 1)) (cellAt (now corners) t v) ⌝ }
     ensures { λ r. ⌜ Tells (LeadsTo (now (corners .entry)) t (now (work .entry)) v link) r ⌝ }
 {
     if link == 0 {
@@ -97,8 +97,8 @@ fn place_before(
 // The length of the leg from place u to place v.
 fn leg_length(corners: &[u16], t: Trip, u: usize, v: usize) -> Length
     requires corners { ⌜ length (now corners) ≡ t .k ⌝ }
-    requires cells { ⌜ TwoCells (t .w) (cellOf (now corners) t u) (cellOf (now corners) t v) ⌝ }
-    ensures { λ r. ⌜ lenOf r ≡ octile (placeOf (t .w) (cellOf (now (corners .entry)) t u)) (placeOf (t .w) (cellOf (now (corners .entry)) t v)) ⌝ }
+    requires cells { ⌜ TwoCells (t .w) (cellAt (now corners) t u) (cellAt (now corners) t v) ⌝ }
+    ensures { λ r. ⌜ lenOf r ≡ octile (placeOf (t .w) (cellAt (now (corners .entry)) t u)) (placeOf (t .w) (cellAt (now (corners .entry)) t v)) ⌝ }
 {
     let w = t.w;
     let a = search::cell_of(corners, t, u);
@@ -139,10 +139,10 @@ pub fn link_back(
 // Writes the leg from place v to place u from entry `from` on, and says which entry is next.
 fn write_leg(corners: &[u16], t: Trip, v: usize, u: usize, route: &mut [u16], from: usize) -> usize
     requires corners { ⌜ length (now corners) ≡ t .k ⌝ }
-    requires first { ⌜ Cell (t .w) (cellOf (now corners) t v % t .w) (cellOf (now corners) t v / t .w) ⌝ }
-    requires second { ⌜ Cell (t .w) (cellOf (now corners) t u % t .w) (cellOf (now corners) t u / t .w) ⌝ }
-    requires room { ⌜ from + steps (placeOf (t .w) (cellOf (now corners) t v)) (placeOf (t .w) (cellOf (now corners) t u)) ≤ length (now route) ⌝ }
-    ensures { λ r. ⌜ LineWritten (t .w) (placeOf (t .w) (cellOf (now (corners .entry)) t v)) (placeOf (t .w) (cellOf (now (corners .entry)) t u)) (now (route .entry)) from r (now (route .exit)) ⌝ }
+    requires first { ⌜ Cell (t .w) (cellAt (now corners) t v % t .w) (cellAt (now corners) t v / t .w) ⌝ }
+    requires second { ⌜ Cell (t .w) (cellAt (now corners) t u % t .w) (cellAt (now corners) t u / t .w) ⌝ }
+    requires room { ⌜ from + steps (placeOf (t .w) (cellAt (now corners) t v)) (placeOf (t .w) (cellAt (now corners) t u)) ≤ length (now route) ⌝ }
+    ensures { λ r. ⌜ LineWritten (t .w) (placeOf (t .w) (cellAt (now (corners .entry)) t v)) (placeOf (t .w) (cellAt (now (corners .entry)) t u)) (now (route .entry)) from r (now (route .exit)) ⌝ }
 {
     let w = t.w;
     let a = search::cell_of(corners, t, v);

@@ -6,6 +6,7 @@ use mathlib.Core.Path.{_≡_, sym, _∙_, ap, subst}
 use native.Mathlib.Omega.{arith}
 use native.Mathlib.Decide.{decLe}
 use lib.ListN.{replicate}
+use Rattle.lengths.specs.Laws.{le-or-lt}
 use Rattle.floor.specs.Board.{Board, Place, Free, Dir, step, corner}
 use Rattle.ground.specs.Rows.{cell, Rows}
 use Rattle.ground.specs.Clearance.{ahead, Clearance}
@@ -14,10 +15,6 @@ use Rattle.ground.proofs.Walks.{end-append}
 use Rattle.ground.proofs.ByClearance.{clearance-unique}
 use Rattle.fields.specs.Fields.{Open, Opened, Come, Shows}
 use Rattle.fields.proofs.Rays.{ray-free, ray-step, ray-more}
-
--- of two numbers the first is at most the second, or more
-le-or-lt : (a b : ℕ) → (a ≤ b) ⊎ (b < a)
-le-or-lt a b = elim (decLe a b) [ yes h ↦ inl h | no h ↦ inr (omega arith) ]
 
 -- ---- the steps that are open in one row
 -- exactly the first o steps from p are open, of those that a floor can have

@@ -149,10 +149,14 @@ field-ways way d c n k sides o = (
   λ h. sym (over-replicate way k c h (over-rest way (replicate n d) (replicate k c) o) ∙ ap way (sides .straight h)),
 )
 
--- a direction that is not used may be any
-replicate-is : (m i : ℕ) (a b : Dir) → (0 < m → a ≡ b) → i ≤ m → replicate i a ≡ replicate i b
-replicate-is m zero a b e h = refl
-replicate-is m (suc i) a b e h = ap (replicate (suc i)) (e (omega arith))
+-- a direction in which no step is taken may be any
+pub replicate-is : (n : ℕ) (a b : Dir) → (0 < n → a ≡ b) → replicate n a ≡ replicate n b
+replicate-is zero a b e = refl
+replicate-is (suc n) a b e = ap (replicate (suc n)) (e (omega arith))
+
+-- the same for fewer steps
+replicate-fewer : (m i : ℕ) (a b : Dir) → (0 < m → a ≡ b) → i ≤ m → replicate i a ≡ replicate i b
+replicate-fewer m i a b e h = replicate-is i a b (λ z. e (omega arith))
 
 module _ {B : Board} (padded : Padded B) (s : Place) (d c : Dir) (n k : ℕ) (sides : Sides d c n k) (rows : Rows B s d c n k) where
   -- the diagonal steps and then the straight ones are legal
@@ -192,7 +196,7 @@ module _ {B : Board} (padded : Padded B) (s : Place) (d c : Dir) (n k : ℕ) (si
       let same-place : end s (sorted way (len μ)) ≡ end s μ =
       rearranged-end walker-ways (sort way μ (over-part way μ ν (o .over))) (tame-part Near μ ν (o .tame)) s in
       let on-cell : cell s d c (len μ .diagonal) (len μ .straight) ≡ end s μ =
-      ap (end s) (sym (ap₂ _++_ (replicate-is n (len μ .diagonal) (way true) d (ways .0) i-fits) (replicate-is k (len μ .straight) (way false) c (ways .1) j-fits)))
+      ap (end s) (sym (ap₂ _++_ (replicate-fewer n (len μ .diagonal) (way true) d (ways .0) i-fits) (replicate-fewer k (len μ .straight) (way false) c (ways .1) j-fits)))
       ∙ same-place in
       subst (λ (r : Place). corner B r ≡ false) on-cell
       (rows .plain (len μ .diagonal) (len μ .straight) i-fits j-fits
@@ -249,13 +253,13 @@ line-sides s t =
 same-rows : {B : Board} (s : Place) (d d′ c c′ : Dir) (n k : ℕ) → (0 < n → d ≡ d′) → (0 < k → c ≡ c′) → Rows B s d c n k → Rows B s d′ c′ n k
 same-rows {B} s d d′ c c′ n k p q r =
     record {
-      ray = subst (Legal walkers B s) (replicate-is n n d d′ p (omega arith)) (r .ray);
+      ray = subst (Legal walkers B s) (replicate-fewer n n d d′ p (omega arith)) (r .ray);
       free = λ i j a b. subst (Free B) (same-cell i j a b) (r .free i j a b);
       plain = λ i j a b e f. subst (λ (t : Place). corner B t ≡ false) (same-cell i j a b) (r .plain i j a b e f);
     }
   where
     same-cell : (i j : ℕ) → i ≤ n → j ≤ k → cell s d c i j ≡ cell s d′ c′ i j
-    same-cell i j a b = ap (end s) (ap₂ _++_ (replicate-is n i d d′ p a) (replicate-is k j c c′ q b))
+    same-cell i j a b = ap (end s) (ap₂ _++_ (replicate-fewer n i d d′ p a) (replicate-fewer k j c c′ q b))
 
 -- E. A place and the one n steps in d and k steps in c from it are joined directly exactly if the rows between them are free and plain.
 pub cell-iff-rows : {B : Board} → Padded B → (s : Place) (d c : Dir) (n k : ℕ) → Sides d c n k →

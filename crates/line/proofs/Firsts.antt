@@ -15,6 +15,7 @@ use Rattle.lengths.specs.Octile.{gap-suc}
 use Rattle.floor.specs.Board.{Place, at, Dir, Offset, same, shift, go, moving}
 use Rattle.ground.specs.Kind.{octile}
 use Rattle.ground.specs.Line.{toward, compass, diagonal-way, line}
+use Rattle.ground.proofs.RowTest.{replicate-is}
 use Rattle.ground.proofs.LineEnds.{compass-dx, compass-dy}
 use Rattle.ground.proofs.Logic.{or-left, or-right}
 use Rattle.ground.proofs.Walks.{place-eq}
@@ -22,11 +23,6 @@ use Rattle.line.specs.Cells.{steps}
 use Rattle.line.proofs.Ways.{gap-nearer, way-stays, way-none, way-moves}
 
 -- ---- n steps by a long and a short axis, then k by the long one alone
--- n times the same, where it is ever taken
-replicate-is : (n : ℕ) (d e : Dir) → (0 < n → d ≡ e) → replicate n d ≡ replicate n e
-replicate-is zero d e h = refl
-replicate-is (suc n) d e h = ap (replicate (suc n)) (h (omega arith))
-
 -- the steps, f giving the direction with an offset on each axis
 abbrev block : (Offset → Offset → Dir) → ℕ → ℕ → Offset → Offset → List Dir
 block f n k o p = replicate n (f o p) ++ replicate k (f o same)

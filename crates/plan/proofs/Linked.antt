@@ -22,7 +22,7 @@ use Rattle.ground.proofs.Tables.{offset-pair}
 use Rattle.ground.proofs.Near.{Near}
 use Rattle.ground.proofs.Octile.{tame-within, tame-octile}
 use Rattle.ground.proofs.LineEnds.{block-len, line-end, line-diagonal}
-use Rattle.ground.proofs.RowTest.{Sides, beside-sides, cell-iff-rows}
+use Rattle.ground.proofs.RowTest.{Sides, beside-sides, cell-iff-rows, replicate-is}
 use Rattle.fields.specs.Fields.{slant, side, Shows, fieldBy, fieldTo}
 
 -- the two directions of a field: a diagonal one and a straight one beside it
@@ -104,11 +104,6 @@ moving-toward a b l = by (ltb a b) (ltb b a) refl refl
     by true q e f = refl
     by false true e f = refl
     by false false e f = absurd (omega (arith, ltb-false a b e, ltb-false b a f))
-
--- a direction in which no step is taken may be any
-replicate-is : (n : ℕ) (a b : Dir) → (0 < n → a ≡ b) → replicate n a ≡ replicate n b
-replicate-is zero a b e = refl
-replicate-is (suc n) a b e = ap (replicate (suc n)) (e (omega arith))
 
 module _ (s t : Place) where
   -- the offset of the columns from s to t

@@ -9,10 +9,11 @@ use native.Mathlib.Decide.{ℕ-discrete, decLt}
 use borrow.Author.Tests.{eq-eqb, ne-eqb, lt-ltb, le-ltb}
 use lib.ListN.{length, getD, set, length-set}
 use lib.Seq.{getD-set-same, getD-set-other}
+use Rattle.lengths.specs.Octile.{gap-none}
 use Rattle.lengths.specs.Lengths.{gap, octileOf}
 use Rattle.lengths.specs.Laws.{weight}
 use Rattle.search.specs.declared.Trip.{Trip}
-use Rattle.search.specs.Places.{indexOf, Ascending, Bound, Gain, Indexed, cellOf, apart, TwoCells}
+use Rattle.search.specs.Places.{indexOf, Ascending, Bound, Gain, Indexed, cellAt, apart, TwoCells}
 
 -- Where a cell first stands is its index.
 pub index-first : (C : List ℕ) (cell i : ℕ) → i < length C → getD C i 0 ≡ cell → ((j : ℕ) → j < i → getD C j 0 ≡ cell → ⊥) → indexOf C cell ≡ i
@@ -192,18 +193,18 @@ indexing-done room x h = record { room = rw (x .sized) room; index = λ j l. x .
 -- ---- the cells of places
 module _ (C : List ℕ) (t : Trip) where
   -- The cell of a corner.
-  pub cell-corner : (i : ℕ) → i < t .k → cellOf C t i ≡ getD C i 0
-  unfolding cellOf
+  pub cell-corner : (i : ℕ) → i < t .k → cellAt C t i ≡ getD C i 0
+  unfolding cellAt
   cell-corner i h = rw (lt-ltb i (t .k) h)
 
   -- The cell of the start.
-  pub cell-start : (i : ℕ) → i ≡ t .k → cellOf C t i ≡ t .start
-  unfolding cellOf
+  pub cell-start : (i : ℕ) → i ≡ t .k → cellAt C t i ≡ t .start
+  unfolding cellAt
   cell-start i q = rw (le-ltb i (t .k) (omega arith), eq-eqb i (t .k) q)
 
   -- The cell of the goal.
-  pub cell-goal : (i : ℕ) → t .k < i → cellOf C t i ≡ t .goal
-  unfolding cellOf
+  pub cell-goal : (i : ℕ) → t .k < i → cellAt C t i ≡ t .goal
+  unfolding cellAt
   cell-goal i h = rw (le-ltb i (t .k) (omega arith), ne-eqb i (t .k) (λ q. omega arith))
 
 -- ---- how far cells are apart
@@ -223,10 +224,6 @@ module _ (w a b : ℕ) (two : TwoCells w a b) where
   -- So their rows are at most 254 apart.
   pub offset-y : gap (a / w) (b / w) ≤ 254
   offset-y = gap-most (a / w) (b / w) 254 (row a (two .first)) (row b (two .second))
-
--- Numbers with no gap are one number.
-gap-none : (x y : ℕ) → gap x y ≡ 0 → x ≡ y
-gap-none x y h = omega arith
 
 -- Cells that are no way apart are one cell.
 pub apart-none : (w a b : ℕ) → apart w a b ≤ 0 → a ≡ b

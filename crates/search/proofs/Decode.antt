@@ -15,7 +15,7 @@ use Rattle.settling.specs.Labels.{WaitingAt}
 use Rattle.settling.proofs.Instances.{nearest-no-later}
 use Rattle.search.specs.declared.Trip.{Trip}
 use Rattle.search.specs.Columns.{columnOf, Label, Settled}
-use Rattle.search.specs.Places.{cellOf}
+use Rattle.search.specs.Places.{cellAt}
 use Rattle.search.specs.Chart.{chart, cell}
 use Rattle.search.specs.Keys.{keyOf, nobody}
 use Rattle.search.specs.Tree.{waitsAt, Right}
@@ -70,11 +70,11 @@ module _ (C S E : List ℕ) {t : Trip} {W T : List ℕ} (few : t .k ≤ 2048) (r
   -- One that waits has its key in the tree, and the top holds no more.
   waiting-key :
       (v e : ℕ) → WaitingAt (labelsOf (t .k + 2) W) v e →
-      (v < t .k + 2) × (getD D v 0 ≡ e + 1) × (getD T (t .k + 2 + v) 0 ≡ keyOf (getD D v 0) (cellOf C t v) v) × (getD T 1 0 ≤ keyOf (getD D v 0) (cellOf C t v) v)
+      (v < t .k + 2) × (getD D v 0 ≡ e + 1) × (getD T (t .k + 2 + v) 0 ≡ keyOf (getD D v 0) (cellAt C t v) v) × (getD T 1 0 ≤ keyOf (getD D v 0) (cellAt C t v) v)
   waiting-key v e w =
       let x = waiting-entry D F v e w in
       let h : v < t .k + 2 = rw (column-length (t .k + 2) W Label (omega arith) room) at (waits-inside D F v (x .0)) in
-      let q : getD T (t .k + 2 + v) 0 ≡ keyOf (getD D v 0) (cellOf C t v) v = right .leaf v h ∙ leaf-waits D F (cellOf C t) v (x .0) in
+      let q : getD T (t .k + 2 + v) 0 ≡ keyOf (getD D v 0) (cellAt C t v) v = right .leaf v h ∙ leaf-waits D F (cellAt C t) v (x .0) in
       (h, x .1, q, rw q at (top-least (right .keyed) v h))
 
   -- Where the top holds nobody, none waits: no node holds more than nobody.
@@ -83,21 +83,21 @@ module _ (C S E : List ℕ) {t : Trip} {W T : List ℕ} (few : t .k ≤ 2048) (r
     inside = omega arith;
     none = λ z v e w.
         let x = waiting-key v e w in
-        key-some (getD D v 0) (cellOf C t v) v (omega (arith, x .0)) (omega (arith, fits (t .k + 2 + v), x .2, x .3));
+        key-some (getD D v 0) (cellAt C t v) v (omega (arith, x .0)) (omega (arith, fits (t .k + 2 + v), x .2, x .3));
     some = λ pos. absurd (omega arith);
   }
 
   -- A leaf that does not hold nobody holds the key of its place, which waits.
-  leaf-key : (p : ℕ) → p < t .k + 2 → (getD T (t .k + 2 + p) 0 ≡ nobody → ⊥) → (waitsAt D F p ≡ true) × (getD T (t .k + 2 + p) 0 ≡ keyOf (getD D p 0) (cellOf C t p) p)
+  leaf-key : (p : ℕ) → p < t .k + 2 → (getD T (t .k + 2 + p) 0 ≡ nobody → ⊥) → (waitsAt D F p ≡ true) × (getD T (t .k + 2 + p) 0 ≡ keyOf (getD D p 0) (cellAt C t p) p)
   leaf-key p h held = go (waitsAt D F p) refl
     where
-      go : (b : Bool) → waitsAt D F p ≡ b → (waitsAt D F p ≡ true) × (getD T (t .k + 2 + p) 0 ≡ keyOf (getD D p 0) (cellOf C t p) p)
-      go true e = (e, right .leaf p h ∙ leaf-waits D F (cellOf C t) p e)
-      go false e = absurd (held (right .leaf p h ∙ leaf-nobody D F (cellOf C t) p e))
+      go : (b : Bool) → waitsAt D F p ≡ b → (waitsAt D F p ≡ true) × (getD T (t .k + 2 + p) 0 ≡ keyOf (getD D p 0) (cellAt C t p) p)
+      go true e = (e, right .leaf p h ∙ leaf-waits D F (cellAt C t) p e)
+      go false e = absurd (held (right .leaf p h ∙ leaf-nobody D F (cellAt C t) p e))
 
   -- The place whose key is at the top is the foremost.
   foremost-of :
-      (p : ℕ) → p < t .k + 2 → waitsAt D F p ≡ true → getD T 1 0 ≡ keyOf (getD D p 0) (cellOf C t p) p → First (chart C S E t W) W (p + 1)
+      (p : ℕ) → p < t .k + 2 → waitsAt D F p ≡ true → getD T 1 0 ≡ keyOf (getD D p 0) (cellAt C t p) p → First (chart C S E t W) W (p + 1)
   foremost-of p h w q = record {
     inside = omega arith;
     none = λ z. absurd (omega arith);
@@ -106,7 +106,7 @@ module _ (C S E : List ℕ) {t : Trip} {W T : List ℕ} (few : t .k ≤ 2048) (r
           waits = x .1;
           first = λ v e w′.
               let y = waiting-key v e w′ in
-              let o = key-order (getD D p 0) (cellOf C t p) p (getD D v 0) (cellOf C t v) v (right .small p h) (omega arith) (right .small v (y .0)) (omega (arith, y .0)) (rw q at (y .3)) in
+              let o = key-order (getD D p 0) (cellAt C t p) p (getD D v 0) (cellAt C t v) v (right .small p h) (omega arith) (right .small v (y .0)) (omega (arith, y .0)) (rw q at (y .3)) in
               nearest-no-later wholes (cell (chart C S E t W)) (getD D p 0 - 1) e p v .1
               (omega (arith, o .0, y .1, x .0), λ l. o .1 (omega (arith, y .1, x .0)));
         });
@@ -120,6 +120,6 @@ module _ (C S E : List ℕ) {t : Trip} {W T : List ℕ} (few : t .k ≤ 2048) (r
   first-some held =
       let top = top-leaf (right .keyed) (omega arith) in
       let x = leaf-key (top .0) (top .1) (λ q. held (sym (top .2) ∙ q)) in
-      let q : getD T 1 0 ≡ keyOf (getD D (top .0) 0) (cellOf C t (top .0)) (top .0) = sym (top .2) ∙ x .1 in
-      let place : getD T 1 0 % 4096 ≡ top .0 = rw q (key-place (getD D (top .0) 0) (cellOf C t (top .0)) (top .0) (omega (arith, top .1))) in
+      let q : getD T 1 0 ≡ keyOf (getD D (top .0) 0) (cellAt C t (top .0)) (top .0) = sym (top .2) ∙ x .1 in
+      let place : getD T 1 0 % 4096 ≡ top .0 = rw q (key-place (getD D (top .0) 0) (cellAt C t (top .0)) (top .0) (omega (arith, top .1))) in
       rw place (foremost-of (top .0) (top .1) (x .0) q)

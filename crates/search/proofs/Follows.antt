@@ -8,7 +8,7 @@ use native.Mathlib.Omega.{arith}
 use lib.ListN.{length, getD}
 use Rattle.search.specs.declared.Trip.{Trip}
 use Rattle.search.specs.Columns.{columnOf, Label, Settled, Left}
-use Rattle.search.specs.Places.{indexOf, Indexed, cellOf, apart, TwoCells}
+use Rattle.search.specs.Places.{indexOf, Indexed, cellAt, apart, TwoCells}
 use Rattle.search.specs.Chart.{chart, arcsOf, linkAt, linkCount}
 use Rattle.search.specs.Keys.{nobody}
 use Rattle.search.specs.Tree.{Small, Room, Right}
@@ -47,7 +47,7 @@ module _ {C S E : List ℕ} {t : Trip} {W : List ℕ} (u j : ℕ) {r : ℕ} (rea
 
   -- It leads to a place, and that place has its offer.
   pub follow-some :
-      {T W′ T′ : List ℕ} {d a b far : ℕ} → (r ≡ 0 → ⊥) → a ≡ cellOf C t u → b ≡ cellOf C t (r - 1) → far ≡ apart (t .w) a b →
+      {T W′ T′ : List ℕ} {d a b far : ℕ} → (r ≡ 0 → ⊥) → a ≡ cellAt C t u → b ≡ cellAt C t (r - 1) → far ≡ apart (t .w) a b →
       Offer C t W T (r - 1) (d + far) W′ T′ →
       Follow C S E t W T u d j W′ T′
   follow-some n qa qb qf o = record {
@@ -148,7 +148,7 @@ module _ {C S E : List ℕ} {t : Trip} {W Q : List ℕ} (u j : ℕ) (ready : Rea
   known = ready .fair .known (getD S u 0 + j) arc-within
 
   -- whose cell it is
-  is-cell : cellOf C t (indexOf C to) ≡ to
+  is-cell : cellAt C t (indexOf C to) ≡ to
   is-cell = cell-corner C t (indexOf C to) known ∙ index-at C to (rw (ready .fair .corners) known)
 
   -- Its cell has an entry in the table.
@@ -166,7 +166,7 @@ module _ {C S E : List ℕ} {t : Trip} {W Q : List ℕ} (u j : ℕ) (ready : Rea
   arc-place = omega (arith, arc-index, known)
 
   -- Both cells lie on the floor.
-  pub arc-cells : TwoCells (t .w) (cellOf C t u) to
+  pub arc-cells : TwoCells (t .w) (cellAt C t u) to
   arc-cells = rw is-cell at (two-cells (chart C S E t W) (ready .fair) u (indexOf C to) (omega arith) (omega (arith, known)))
 
   -- The arc is link j of u.
@@ -175,12 +175,12 @@ module _ {C S E : List ℕ} {t : Trip} {W Q : List ℕ} (u j : ℕ) (ready : Rea
 
   -- The arc's offer is made: the link has been followed.
   pub arc-followed :
-      {T W′ T′ : List ℕ} {d a b v far : ℕ} → a ≡ cellOf C t u → b ≡ to → v ≡ getD Q b 0 → far ≡ apart (t .w) a b → Offer C t W T v (d + far) W′ T′ →
+      {T W′ T′ : List ℕ} {d a b v far : ℕ} → a ≡ cellAt C t u → b ≡ to → v ≡ getD Q b 0 → far ≡ apart (t .w) a b → Offer C t W T v (d + far) W′ T′ →
       Follow C S E t W T u d j W′ T′
   arc-followed qa qb qv qf o =
       let z : indexOf C to + 1 - 1 ≡ indexOf C to = omega arith in
       let v-is = qv ∙ ap (λ (x : ℕ). getD Q x 0) qb ∙ arc-index ∙ sym z in
-      follow-some u j ready (omega (arith, there, arcs-most C S E t W u corner)) arc-link (λ q. omega arith) qa (qb ∙ sym is-cell ∙ ap (cellOf C t) (sym z)) qf (rw v-is at o)
+      follow-some u j ready (omega (arith, there, arcs-most C S E t W u corner)) arc-link (λ q. omega arith) qa (qb ∙ sym is-cell ∙ ap (cellAt C t) (sym z)) qf (rw v-is at o)
 
 -- ---- a place is settled
 -- Nobody waits.
@@ -237,5 +237,5 @@ blank-right {C} {t} {W} {T} small room bare b = record {
   };
   leaf = λ p h.
       bare (t .k + 2 + p) (omega arith) ∙
-      sym (leaf-nobody (columnOf (t .k + 2) W Label) (columnOf (t .k + 2) W Settled) (cellOf C t) p (waits-blank (columnOf (t .k + 2) W Label) (columnOf (t .k + 2) W Settled) (cellOf C t) p (omega (arith, b .settled p)) (omega (arith, b .label p))));
+      sym (leaf-nobody (columnOf (t .k + 2) W Label) (columnOf (t .k + 2) W Settled) (cellAt C t) p (waits-blank (columnOf (t .k + 2) W Label) (columnOf (t .k + 2) W Settled) (cellAt C t) p (omega (arith, b .settled p)) (omega (arith, b .label p))));
 }

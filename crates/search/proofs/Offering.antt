@@ -8,7 +8,7 @@ use lib.ListN.{length, getD, set}
 use lib.Seq.{set-getD}
 use Rattle.search.specs.declared.Trip.{Trip}
 use Rattle.search.specs.Columns.{columnOf, Label, Settled, Put}
-use Rattle.search.specs.Places.{cellOf}
+use Rattle.search.specs.Places.{cellAt}
 use Rattle.search.specs.Keys.{keyOf, nobody, Changed}
 use Rattle.search.specs.Tree.{Right}
 use Rattle.search.specs.Offers.{lowered, Offer, Marked}
@@ -61,17 +61,17 @@ module _ {C : List ℕ} {t : Trip} {W T W′ : List ℕ} {v new old best settled
   }
 
   -- The place is not settled.
-  module _ {cell key : ℕ} (free : settled ≡ 0) (place : cell ≡ cellOf C t v) (made : key ≡ keyOf best cell v) where
+  module _ {cell key : ℕ} (free : settled ≡ 0) (place : cell ≡ cellAt C t v) (made : key ≡ keyOf best cell v) where
     -- Its new key is no more than what its leaf holds.
     pub offer-fits : key ≤ nobody → key ≤ getD T (t .k + 2 + v) 0
     offer-fits fits =
-        let q : key ≡ keyOf best (cellOf C t v) v = rw place at made in
+        let q : key ≡ keyOf best (cellAt C t v) v = rw place at made in
         rw q (key-fits right v best h (omega (arith, before)) (λ l. omega (arith, was, low .kept (omega (arith, was)))) (rw q at fits))
 
     -- With the key in the tree the offer is made.
     pub offer-climbed : {T′ : List ℕ} → Changed (t .k + 2) T v key T′ → Offer C t W T v new W′ T′
     offer-climbed c =
-        let q : key ≡ keyOf best (cellOf C t v) v = rw place at made in
+        let q : key ≡ keyOf best (cellAt C t v) v = rw place at made in
         offer-of (right-label right room h (omega (arith, before)) (low .some) s (rw q at c)) (c .sized)
 
   -- The place is settled: no key comes into the tree.

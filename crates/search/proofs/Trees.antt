@@ -11,7 +11,7 @@ use lib.ListN.{length, getD, set}
 use lib.Seq.{getD-set-same, getD-set-other}
 use Rattle.search.specs.declared.Trip.{Trip}
 use Rattle.search.specs.Columns.{columnOf, Label, Settled, Put}
-use Rattle.search.specs.Places.{cellOf}
+use Rattle.search.specs.Places.{cellAt}
 use Rattle.search.specs.Keys.{keyOf, nobody, Changed}
 use Rattle.search.specs.Tree.{waitsAt, leafOf, Right}
 use Rattle.search.proofs.Columns.{column-length}
@@ -56,8 +56,8 @@ module _ {C : List ℕ} {t : Trip} where
     -- A lower label gives a key that is no more than what the leaf holds.
     pub key-fits :
         (v best : ℕ) → v < t .k + 2 → getD (columnOf (t .k + 2) W Settled) v 0 ≤ 0 → (0 < getD (columnOf (t .k + 2) W Label) v 0 → best ≤ getD (columnOf (t .k + 2) W Label) v 0) →
-        keyOf best (cellOf C t v) v ≤ nobody →
-        keyOf best (cellOf C t v) v ≤ getD T (t .k + 2 + v) 0
+        keyOf best (cellAt C t v) v ≤ nobody →
+        keyOf best (cellAt C t v) v ≤ getD T (t .k + 2 + v) 0
     key-fits v best h free less fits = go (decLt 0 (getD D v 0))
       where
         D : List ℕ
@@ -66,16 +66,16 @@ module _ {C : List ℕ} {t : Trip} where
         F : List ℕ
         F = columnOf (t .k + 2) W Settled
 
-        go : Dec (0 < getD D v 0) → keyOf best (cellOf C t v) v ≤ getD T (t .k + 2 + v) 0
-        go (yes l) = rw (right .leaf v h, leaf-waits D F (cellOf C t) v (waits-open D F (cellOf C t) v free l)) (key-lower best (getD D v 0) (cellOf C t v) v (less l))
-        go (no l) = rw (right .leaf v h, leaf-nobody D F (cellOf C t) v (waits-blank D F (cellOf C t) v free (omega arith))) fits
+        go : Dec (0 < getD D v 0) → keyOf best (cellAt C t v) v ≤ getD T (t .k + 2 + v) 0
+        go (yes l) = rw (right .leaf v h, leaf-waits D F (cellAt C t) v (waits-open D F (cellAt C t) v free l)) (key-lower best (getD D v 0) (cellAt C t v) v (less l))
+        go (no l) = rw (right .leaf v h, leaf-nobody D F (cellAt C t) v (waits-blank D F (cellAt C t) v free (omega arith))) fits
 
     module _ {W′ : List ℕ} where
       -- A new label of a place that is not settled, with its key in the tree.
       pub right-label :
           {v best : ℕ} {T′ : List ℕ} → 6 * (t .k + 2) ≤ length W → v < t .k + 2 → getD (columnOf (t .k + 2) W Settled) v 0 ≤ 0 → 0 < best →
           Put (t .k + 2) W Label v best W′ →
-          Changed (t .k + 2) T v (keyOf best (cellOf C t v) v) T′ →
+          Changed (t .k + 2) T v (keyOf best (cellAt C t v) v) T′ →
           Right C t W′ T′
       right-label {v} {best} {T′} room h free pos s c = record {
         small = right .small;
@@ -92,12 +92,12 @@ module _ {C : List ℕ} {t : Trip} where
           new : getD (set D v best) v 0 ≡ best
           new = getD-set-same D v best 0 (rw (column-length (t .k + 2) W Label (omega arith) room) h)
 
-          here : leafOf (set D v best) F (cellOf C t) v ≡ keyOf best (cellOf C t v) v
-          here = rw new at (leaf-waits (set D v best) F (cellOf C t) v (waits-open (set D v best) F (cellOf C t) v free (omega (arith, new))))
+          here : leafOf (set D v best) F (cellAt C t) v ≡ keyOf best (cellAt C t v) v
+          here = rw new at (leaf-waits (set D v best) F (cellAt C t) v (waits-open (set D v best) F (cellAt C t) v free (omega (arith, new))))
 
-          go : (p : ℕ) → p < t .k + 2 → Dec (p ≡ v) → getD T′ (t .k + 2 + p) 0 ≡ leafOf (set D v best) F (cellOf C t) p
+          go : (p : ℕ) → p < t .k + 2 → Dec (p ≡ v) → getD T′ (t .k + 2 + p) 0 ≡ leafOf (set D v best) F (cellAt C t) p
           go p l (yes q) = rw q (c .here ∙ sym here)
-          go p l (no m) = c .others p m ∙ right .leaf p l ∙ sym (leaf-label D F (cellOf C t) v best p m)
+          go p l (no m) = c .others p m ∙ right .leaf p l ∙ sym (leaf-label D F (cellAt C t) v best p m)
 
       -- A new label of a settled place changes no leaf.
       pub right-still : {v best : ℕ} → 0 < getD (columnOf (t .k + 2) W Settled) v 0 → Put (t .k + 2) W Label v best W′ → Right C t W′ T
@@ -113,11 +113,11 @@ module _ {C : List ℕ} {t : Trip} where
           F : List ℕ
           F = columnOf (t .k + 2) W Settled
 
-          go : (p : ℕ) → p < t .k + 2 → Dec (p ≡ v) → getD T (t .k + 2 + p) 0 ≡ leafOf (set D v best) F (cellOf C t) p
+          go : (p : ℕ) → p < t .k + 2 → Dec (p ≡ v) → getD T (t .k + 2 + p) 0 ≡ leafOf (set D v best) F (cellAt C t) p
           go p l (yes q) =
-              right .leaf p l ∙ leaf-nobody D F (cellOf C t) p (waits-settled D F (cellOf C t) p (rw q done)) ∙
-              sym (leaf-nobody (set D v best) F (cellOf C t) p (waits-settled (set D v best) F (cellOf C t) p (rw q done)))
-          go p l (no m) = right .leaf p l ∙ sym (leaf-label D F (cellOf C t) v best p m)
+              right .leaf p l ∙ leaf-nobody D F (cellAt C t) p (waits-settled D F (cellAt C t) p (rw q done)) ∙
+              sym (leaf-nobody (set D v best) F (cellAt C t) p (waits-settled (set D v best) F (cellAt C t) p (rw q done)))
+          go p l (no m) = right .leaf p l ∙ sym (leaf-label D F (cellAt C t) v best p m)
 
       -- A place that is settled, with nobody in its leaf.
       pub right-settled :
@@ -138,9 +138,9 @@ module _ {C : List ℕ} {t : Trip} where
           flag : getD (set F v 1) v 0 ≡ 1
           flag = getD-set-same F v 1 0 (rw (column-length (t .k + 2) W Settled (omega arith) room) h)
 
-          here : leafOf D (set F v 1) (cellOf C t) v ≡ nobody
-          here = leaf-nobody D (set F v 1) (cellOf C t) v (waits-settled D (set F v 1) (cellOf C t) v (omega (arith, flag)))
+          here : leafOf D (set F v 1) (cellAt C t) v ≡ nobody
+          here = leaf-nobody D (set F v 1) (cellAt C t) v (waits-settled D (set F v 1) (cellAt C t) v (omega (arith, flag)))
 
-          go : (p : ℕ) → p < t .k + 2 → Dec (p ≡ v) → getD T′ (t .k + 2 + p) 0 ≡ leafOf D (set F v 1) (cellOf C t) p
+          go : (p : ℕ) → p < t .k + 2 → Dec (p ≡ v) → getD T′ (t .k + 2 + p) 0 ≡ leafOf D (set F v 1) (cellAt C t) p
           go p l (yes q) = rw q (c .here ∙ sym here)
-          go p l (no m) = c .others p m ∙ right .leaf p l ∙ sym (leaf-settled D F (cellOf C t) v 1 p m)
+          go p l (no m) = c .others p m ∙ right .leaf p l ∙ sym (leaf-settled D F (cellAt C t) v 1 p m)

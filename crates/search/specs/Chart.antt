@@ -10,7 +10,7 @@ use Rattle.settling.specs.Chains.{Net, wholes}
 use Rattle.settling.specs.Order.{Ranking, nearest}
 use Rattle.search.specs.declared.Trip.{Trip}
 use Rattle.search.specs.Columns.{columnOf, ByStart, ByGoal}
-use Rattle.search.specs.Places.{indexOf, Ascending, cellOf, apart}
+use Rattle.search.specs.Places.{indexOf, Ascending, cellAt, apart}
 
 -- What a search goes over: the corners' cells; where the neighbours of each corner begin in the list of neighbours, which are cells;
 -- which corners are linked to the start and which to the goal (no entry is set for one that is itself a corner); and the trip.
@@ -69,7 +69,7 @@ module _ (𝓒 : Chart) where
       cond (ltb u (𝓒 .trip .k)) (cornerLink u j) (cond (eqb u (𝓒 .trip .k)) (flagged (𝓒 .by-start) j j) (flagged (𝓒 .by-goal) j j))
 
   abbrev pub cell : ℕ → ℕ
-  cell = cellOf (𝓒 .corners) (𝓒 .trip)
+  cell = cellAt (𝓒 .corners) (𝓒 .trip)
 
   -- What is asked of a chart.
   pub record Fair : Type 0 where

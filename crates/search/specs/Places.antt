@@ -36,8 +36,8 @@ pub record Indexed (C Q : List ℕ) : Type 0 where
   pub index : (i : ℕ) → i < length C → getD Q (getD C i 0) 0 ≡ i
 
 -- The cell of a place: the corners come first, then the start, then the goal.
-unfoldable pub cellOf : List ℕ → Trip → ℕ → ℕ
-cellOf C t i = cond (ltb i (t .k)) (getD C i 0) (cond (eqb i (t .k)) (t .start) (t .goal))
+unfoldable pub cellAt : List ℕ → Trip → ℕ → ℕ
+cellAt C t i = cond (ltb i (t .k)) (getD C i 0) (cond (eqb i (t .k)) (t .start) (t .goal))
 
 -- How far two cells of a floor w wide are apart: the octile distance of where they stand, as one whole number.
 unfoldable pub apart : ℕ → ℕ → ℕ → ℕ

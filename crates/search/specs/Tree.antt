@@ -8,7 +8,7 @@ use lib.Dec.{ltb}
 use lib.ListN.{getD, length}
 use Rattle.search.specs.declared.Trip.{Trip}
 use Rattle.search.specs.Columns.{columnOf, Label, Settled}
-use Rattle.search.specs.Places.{cellOf}
+use Rattle.search.specs.Places.{cellAt}
 use Rattle.search.specs.Keys.{keyOf, nobody, Keyed}
 
 -- Whether place p waits, by the entries of labels and of settled places: it has a label and is not settled.
@@ -27,11 +27,11 @@ pub record Room (C : List ℕ) (t : Trip) (W : List ℕ) : Type 0 where
 
 -- The cells of places fit the fourteen bits that a key has for them.
 abbrev pub Small : List ℕ → Trip → Type 0
-Small C t = (p : ℕ) → p < t .k + 2 → cellOf C t p < 16384
+Small C t = (p : ℕ) → p < t .k + 2 → cellAt C t p < 16384
 
 -- The tree T is right for the entries of the work space W.
 pub record Right (C : List ℕ) (t : Trip) (W T : List ℕ) : Type 0 where
   pub small : Small C t
   pub keyed : Keyed (t .k + 2) T
   pub leaf :
-      (p : ℕ) → p < t .k + 2 → getD T (t .k + 2 + p) 0 ≡ leafOf (columnOf (t .k + 2) W Label) (columnOf (t .k + 2) W Settled) (cellOf C t) p
+      (p : ℕ) → p < t .k + 2 → getD T (t .k + 2 + p) 0 ≡ leafOf (columnOf (t .k + 2) W Label) (columnOf (t .k + 2) W Settled) (cellAt C t) p

@@ -7,10 +7,10 @@ ghost use mathlib.Core.Path.{_≡_};
 ghost use Prim.Native.Nat.{ℕ, _+_, _*_, _<_, _≤_, min};
 ghost use mathlib.Core.List.{List};
 ghost use lib.ListN.{length, getD};
-ghost use Rattle.lengths.specs.Lengths.{gap as gapOf, octileOf};
+ghost use Rattle.lengths.specs.Lengths.{octileOf};
 ghost use Rattle.lengths.specs.Laws.{weight};
 ghost use Rattle.search.specs.Columns.{columnOf, Inside, Put};
-ghost use Rattle.search.specs.Places.{indexOf, Ascending, Bound, Gain, Indexed, cellOf, apart, TwoCells};
+ghost use Rattle.search.specs.Places.{indexOf, Ascending, Bound, Gain, Indexed, cellAt, apart, TwoCells};
 ghost use Rattle.search.specs.Chart.{chart, flagged as flaggedOf, Rows, arcsOf, countOf, cornerLink, linkAt, linkCount};
 ghost use Rattle.search.specs.Keys.{nobody, Keyed};
 ghost use Rattle.search.specs.Tree.{Room, Small, Right};
@@ -74,7 +74,7 @@ pub fn put(work: &mut [u32], n: usize, column: usize, i: usize, value: u32)
 // The cell of place i.
 pub fn cell_of(corners: &[u16], t: Trip, i: usize) -> usize
     requires { ⌜ length (now corners) ≡ t .k ⌝ }
-    ensures { λ r. ⌜ r ≡ cellOf (now (corners .entry)) t i ⌝ }
+    ensures { λ r. ⌜ r ≡ cellAt (now (corners .entry)) t i ⌝ }
 {
     if i < t.k {
         return wide(corners[i]);
@@ -83,16 +83,6 @@ pub fn cell_of(corners: &[u16], t: Trip, i: usize) -> usize
         return t.start;
     }
     t.goal
-}
-
-// The offset of two coordinates, without sign.
-fn gap(a: usize, b: usize) -> usize
-    ensures { λ r. ⌜ r ≡ gapOf a b ⌝ }
-{
-    if a < b {
-        return b - a;
-    }
-    a - b
 }
 
 // The octile distance for two offsets as one whole number.
@@ -113,8 +103,8 @@ pub fn leg(w: usize, a: usize, b: usize) -> u32
     ensures apart { λ r. ⌜ r ≡ apart w a b ⌝ }
     ensures bounded { λ r. ⌜ r ≤ 29017722 ⌝ }
 {
-    let dx = gap(a % w, b % w);
-    let dy = gap(a / w, b / w);
+    let dx = lengths::apart(a % w, b % w);
+    let dy = lengths::apart(a / w, b / w);
     weigh(dx, dy)
 }
 

@@ -6,11 +6,11 @@ use Rattle.search.proofs.leg.Statement.{statement}
 use Rattle.search.proofs.leg.Tie as tie
 
 weigh-requires : tie.Need-weigh-requires
-weigh-requires c κs = rw (c .before .gap .ensures, c .gap2 .ensures) (offset-x _ _ _ (c .before .before .pre), offset-y _ _ _ (c .before .before .pre))
+weigh-requires c κs = rw (c .before .apart .ensures, c .apart2 .ensures) (offset-x _ _ _ (c .before .before .pre), offset-y _ _ _ (c .before .before .pre))
 
 returns : tie.Need-returns
 unfolding apart
-returns c = (rw (c .weigh .ensures .0, c .before .before .gap .ensures, c .before .gap2 .ensures), c .weigh .ensures .1)
+returns c = (rw (c .weigh .ensures .0, c .before .before .apart .ensures, c .before .apart2 .ensures), c .weigh .ensures .1)
 
 pub leg-spec : {M : Type 1} → statement M
 leg-spec =
