@@ -30,15 +30,15 @@ use Rattle.search.proofs.Cells.{index-of-entry, index-most}
 use Rattle.search.proofs.Columns.{only-same}
 
 -- ---- the flags of one end
-module _ (w h : ℕ) (words corners : List ℕ) (cell n c place own : ℕ) (W : List ℕ) (empty : Empty n c W) where
+module _ (w h : ℕ) (words corners : List ℕ) (cell n c : ℕ) (W : List ℕ) (empty : Empty n c W) where
   -- a cell that is a corner has none
-  pub end-none : place ≢ own → EndFlags w h words corners cell n c place own W W
+  pub end-none : cornerCell w h words cell ≡ true → EndFlags w h words corners cell n c W W
   end-none d =
-      record { only = only-same n W c; flags = λ i l. (λ f. absurd (let e = empty i in omega arith), λ s. absurd (d (s .0))) }
+      record { only = only-same n W c; flags = λ i l. (λ f. absurd (let e = empty i in omega arith), λ s. not-both d (s .0)) }
 
-  -- a cell with its own place has those of all corners that are seen from it
-  pub end-all : place ≡ own → Ascending corners → (W′ : List ℕ) → Flagging (Seen w h words cell) corners n c W W′ → AllFlagged (Seen w h words cell) corners n c W′ →
-      EndFlags w h words corners cell n c place own W W′
+  -- any other has those of all corners that are seen from it
+  pub end-all : cornerCell w h words cell ≡ false → Ascending corners → (W′ : List ℕ) → Flagging (Seen w h words cell) corners n c W W′ → AllFlagged (Seen w h words cell) corners n c W′ →
+      EndFlags w h words corners cell n c W W′
   end-all e ascending W′ f all =
       record {
         only = f .only;
@@ -85,16 +85,9 @@ module _ (w h : ℕ) (words : List ℕ) (p : Lists) (start goal : ℕ) (W : List
         few = rw (← own .marks .ascending) (able .fits .few-corners);
       }
 
-  -- a place of its own is that of a cell that is no corner
+  -- a cell that is no corner has a place of its own, and a corner that of its index
   module _ (cell place last : ℕ) (inside : cell < w * h) (at-corner : indexOf (p .corners) cell < length (p .corners) → place ≡ indexOf (p .corners) cell)
       (at-other : length (p .corners) ≤ indexOf (p .corners) cell → place ≡ last) (behind : length (p .corners) ≤ last) where
-    own-place : place ≡ last → cornerCell w h words cell ≡ false
-    own-place e = by (decLe (length (p .corners)) (indexOf (p .corners) cell))
-      where
-        by : Dec (length (p .corners) ≤ indexOf (p .corners) cell) → cornerCell w h words cell ≡ false
-        by (yes l) = index-none own cell inside l
-        by (no l) = absurd (let z = at-corner (omega (arith, l)) in omega (arith, l))
-
     other-place : cornerCell w h words cell ≡ false → place ≡ last
     other-place f = by (decLe (length (p .corners)) (indexOf (p .corners) cell))
       where
@@ -105,22 +98,22 @@ module _ (w h : ℕ) (words : List ℕ) (p : Lists) (start goal : ℕ) (W : List
     corner-place : cornerCell w h words cell ≡ true → place ≡ indexOf (p .corners) cell
     corner-place t = at-corner (corner-index own cell inside t)
 
-    -- its flags are those of the corners that it is direct to
-    end-direct : (n c : ℕ) (A B : List ℕ) → EndFlags w h words (p .corners) cell n c place last A B → (i : ℕ) → i < length (p .corners) →
-        Flag n c B i ↔ ((cornerCell w h words cell ≡ false) × DirectCells w h words cell (getD (p .corners) i 0))
-    end-direct n c A B f i l = (
-      λ g. let s = f .flags i l .0 g in (own-place (s .0), seen-direct w h words cell (getD (p .corners) i 0) (s .1)),
-      λ d. let k = corner-at own i l in
-          f .flags i l .1 (
-            other-place (d .0),
-            direct-seen w h words cell (getD (p .corners) i 0) (k .0) (k .1)
-                (λ e. not-both (subst (λ (x : ℕ). cornerCell w h words x ≡ true) (sym e) (k .1)) (d .0)) (d .1),
-          ),
-    )
+  -- the flags of an end are those of the corners that it is direct to
+  end-direct : (cell n c : ℕ) (A B : List ℕ) → EndFlags w h words (p .corners) cell n c A B → (i : ℕ) → i < length (p .corners) →
+      Flag n c B i ↔ ((cornerCell w h words cell ≡ false) × DirectCells w h words cell (getD (p .corners) i 0))
+  end-direct cell n c A B f i l = (
+    λ g. let s = f .flags i l .0 g in (s .0, seen-direct w h words cell (getD (p .corners) i 0) (s .1)),
+    λ d. let k = corner-at own i l in
+        f .flags i l .1 (
+          d .0,
+          direct-seen w h words cell (getD (p .corners) i 0) (k .0) (k .1)
+              (λ e. not-both (subst (λ (x : ℕ). cornerCell w h words x ≡ true) (sym e) (k .1)) (d .0)) (d .1),
+        ),
+  )
 
   module _ (t : Trip) (trip : TripOf w (p .corners) start goal t) (A B : List ℕ)
-      (one : EndFlags w h words (p .corners) start (t .k + 2) ByStart (t .from) (t .k) W A)
-      (two : EndFlags w h words (p .corners) goal (t .k + 2) ByGoal (t .to) (t .k + 1) A B) where
+      (one : EndFlags w h words (p .corners) start (t .k + 2) ByStart W A)
+      (two : EndFlags w h words (p .corners) goal (t .k + 2) ByGoal A B) where
     abbrev n : ℕ
     n = t .k + 2
 
@@ -167,10 +160,10 @@ module _ (w h : ℕ) (words : List ℕ) (p : Lists) (start goal : ℕ) (W : List
           to-other = other-place goal (t .to) (t .k + 1) (able .goal-inside) (trip .to-corner) to-other (let e = trip .count in omega arith);
           start-flags = λ i l.
               let e = trip .count in
-              rw start-column (end-direct start (t .from) (t .k) (able .start-inside) from-corner from-other (omega arith) n ByStart W A one i (omega arith));
+              rw start-column (end-direct start n ByStart W A one i (omega arith));
           goal-flags = λ i l.
               let e = trip .count in
-              end-direct goal (t .to) (t .k + 1) (able .goal-inside) (trip .to-corner) to-other (omega arith) n ByGoal A B two i (omega arith);
+              end-direct goal n ByGoal A B two i (omega arith);
         }
 
     pub prepared : ((c : ℕ) → c < 6 → Empty n c W) → Prepared w h words p start goal t W B

@@ -39,7 +39,7 @@ fn trip_of(w: usize, corners: &[u16], start: usize, goal: usize) -> Trip
     }
 }
 
-// Sets the flags of the corners that a cell is linked to, where the cell has the place that is its own.
+// Sets the flags of the corners that a cell is linked to, where it is none itself.
 fn flag_end(
     words: &[u64],
     w: usize,
@@ -50,14 +50,12 @@ fn flag_end(
     n: usize,
     column: usize,
     cell: usize,
-    place: usize,
-    own: usize,
 )
     requires ready { ⌜ Flaggable w h (now words) (now clear) (now corners) cell n column (now work) ⌝ }
     requires empty { ⌜ Empty n column (now work) ⌝ }
-    ensures { λ r. ⌜ EndFlags w h (now (words .entry)) (now (corners .entry)) cell n column place own (now (work .entry)) (now (work .exit)) ⌝ }
+    ensures { λ r. ⌜ EndFlags w h (now (words .entry)) (now (corners .entry)) cell n column (now (work .entry)) (now (work .exit)) ⌝ }
 {
-    if place == own {
+    if !marks::corner_cell(words, w, h, cell) {
         flags::flag_links(words, w, h, clear, corners, work, n, column, cell);
     }
 }
@@ -91,8 +89,6 @@ pub fn prepare(
         k + 2,
         search::BY_START,
         start,
-        t.from,
-        k,
     );
     flag_end(
         words,
@@ -104,8 +100,6 @@ pub fn prepare(
         k + 2,
         search::BY_GOAL,
         goal,
-        t.to,
-        k + 1,
     );
     t
 }

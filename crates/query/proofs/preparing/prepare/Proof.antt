@@ -54,7 +54,6 @@ prepare-spec =
     (search needs)
     flag-end-requires
     (search needs)
-    (search needs)
     flag-end-requires-2
     (search needs)
     returns)
