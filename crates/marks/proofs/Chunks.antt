@@ -1,10 +1,10 @@
 -- Chunks of cells, and their places. Assumes nothing.
 use Prim.Native.Nat.{ℕ, suc, _+_, _-_, _*_, _/_, _%_, _≤_, _<_}
-use mathlib.Core.Bool.{Bool, false, _&&_}
+use mathlib.Core.Bool.{Bool, true, false, _&&_}
 use mathlib.Core.List.{List}
-use mathlib.Core.Path.{_≡_, refl, sym, ap, _∙_}
+use mathlib.Core.Path.{_≡_, refl, sym, ap, subst, _∙_}
 use native.Mathlib.Decide.{decLe}
-use native.Mathlib.Nat.{mul-le-mul-right, suc-mul, mul-comm, mul-add-mod-self-right, mod-eq-of-lt, zero-div}
+use native.Mathlib.Nat.{mul-le-mul-right, suc-mul, mul-comm, mul-add-mod-self-right, mod-eq-of-lt}
 use native.Mathlib.Omega.{arith}
 use borrow.Author.Tests.{lt-ltb, le-ltb}
 use lib.Dec.{ltb}
@@ -14,7 +14,7 @@ use Rattle.floor.specs.Masks.{bitSet, Mask, spot}
 use Rattle.floor.proofs.Tables.{not-so}
 use Rattle.ground.proofs.Walks.{place-eq}
 use Rattle.marks.specs.Marks.{cornerCell}
-use Rattle.marks.specs.Chunks.{Chunk, Span, LastSpan, RowBits, inRow}
+use Rattle.marks.specs.Chunks.{Chunk, Span, LastSpan, RowBits, inRow, NextBit}
 use Rattle.ground.proofs.Numbers.{number-of-cell, place-of-number, column-in, row-in, within}
 
 -- cells of one row end with the floor
@@ -112,6 +112,13 @@ corner-row w h words c mask b m i l = by (decLe w (c % w + i))
         rw (lt-ltb (c % w + i) w o) (row-bits w c mask (corner (board w h words)) b m i l o)
 
 -- ---- a chunk's bits
+-- P holds of as many of a chunk's n cells as are passed, and bit i is the next one that is 1
+pub record UpTo (n mask : ℕ) (P : ℕ → Type 0) (i : ℕ) : Type 0 where
+  pub passed : ℕ
+  pub in-chunk : passed ≤ n
+  pub so : P passed
+  pub next : NextBit mask passed i
+
 module _ {w h c n : ℕ} (k : Chunk w h c n) (f : ℕ → Bool) (mask : ℕ) where
   -- a bit of a mask of the row is that of a cell of the chunk
   pub row-told : RowBits w f c mask → (b : Bool) (i : ℕ) → i < n → b ≡ bitSet mask i → b ≡ f (c + i)
@@ -122,6 +129,13 @@ module _ {w h c n : ℕ} (k : Chunk w h c n) (f : ℕ → Bool) (mask : ℕ) whe
     pub bit-told : (b : Bool) (i : ℕ) → i < n → b ≡ bitSet mask i → b ≡ f (c + i)
     bit-told b i l e = e ∙ m i (omega (arith, k .few)) ∙ rw (lt-ltb (c % w + i) w (omega (arith, k .in-row)))
 
-    -- where the mask is 0 no cell of the chunk passes
-    pub none-told : mask ≡ 0 → (i : ℕ) → i < n → f (c + i) ≡ false
-    none-told e i l = sym (bit-told (bitSet mask i) i l refl) ∙ rw (e, zero-div)
+    -- no cell passes between a bit and the next one that is 1
+    pub none-between : (s i e : ℕ) → NextBit mask s i → e ≤ i → e ≤ n → (j : ℕ) → j < e - s → f (c + s + j) ≡ false
+    none-between s i e b l o j q =
+        let a : c + (s + j) ≡ c + s + j = omega arith in
+        subst (λ t. f t ≡ false) a
+        (sym (bit-told (bitSet mask (s + j)) (s + j) (omega arith) refl) ∙ b .clear (s + j) (omega arith) (omega arith))
+
+    -- a cell whose bit is the next one that is 1 passes
+    pub next-told : (s i : ℕ) → NextBit mask s i → i < n → f (c + i) ≡ true
+    next-told s i b l = sym (bit-told (bitSet mask i) i l refl) ∙ b .found (omega (arith, k .few))

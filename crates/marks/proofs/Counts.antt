@@ -1,44 +1,60 @@
--- The ones of a mask are as many as the turning points of its chunk. Assumes nothing.
+-- The ones of a mask: as many as the turning points of its chunk, and which is the next one. Assumes nothing.
 use Prim.Native.Nat.{ℕ, zero, suc, _+_, _-_, _/_, _%_, _^_, _<_}
 use mathlib.Core.Bool.{Bool, true, false}
 use mathlib.Core.Logic.{_⊎_, inl, inr}
-use mathlib.Core.Path.{_≡_, refl, sym, ap, _∙_}
-use native.Mathlib.Nat.{div-one, div-div-eq-div-mul, pow-suc, mul-comm, mod-lt, zero-lt-suc, add-zero}
-use native.Mathlib.Numerals.{add-one}
+use mathlib.Core.Path.{_≡_, refl, sym, ap, subst, _∙_}
+use native.Mathlib.Nat.{div-one, div-div-eq-div-mul, mod-lt, zero-lt-suc, add-zero}
 use native.Mathlib.Omega.{arith}
-use lib.Dec.{eqb}
 use lib.ListN.{length}
-use lib.Count.{ones, ones-step, ones-ones}
-use lib.Arith.{lt-one}
-use lib.Pow.{shr-lt}
+use lib.Count.{ones, under, trailingZeros}
+use lib.Pow.{pow-add}
 use borrow.Author.Tests.{lt-ltb, le-ltb}
 use Rattle.floor.specs.Words.{sumBelow, one}
 use Rattle.floor.specs.Masks.{bitSet, Mask}
-use Rattle.floor.proofs.Sums.{sum-same, sum-none, sum-add, sum-first}
+use Rattle.floor.proofs.Bits.{half-bit, ones-are}
+use Rattle.floor.proofs.Sums.{sum-same, sum-none, sum-add}
 use Rattle.ground.proofs.Logic.{true-or-false}
 use Rattle.marks.specs.Lists.{select}
-use Rattle.marks.specs.Chunks.{Span, inRow}
+use Rattle.marks.specs.Chunks.{Span, inRow, NextBit}
 use Rattle.marks.proofs.Selects.{length-taken, length-passed}
 
--- the lowest digit is the lowest bit
-lowest : (r : ℕ) → r < 2 → r ≡ one (eqb r 1)
-lowest zero l = refl
-lowest (suc zero) l = refl
-lowest (suc (suc r)) l = absurd (omega arith)
+-- the bits below the lowest that is 1 are 0
+clear-below : (k n j : ℕ) → j < trailingZeros k n → bitSet n j ≡ false
+unfolding trailingZeros
+clear-below zero n j l = absurd (omega arith)
+clear-below (suc k) n j l = by (n % 2) refl j l (λ i m. clear-below k (n / 2) i m)
+  where
+    by : (d : ℕ) → n % 2 ≡ d → (j : ℕ) → j < under d (trailingZeros k (n / 2)) → ((i : ℕ) → i < trailingZeros k (n / 2) → bitSet (n / 2) i ≡ false) → bitSet n j ≡ false
+    by zero e zero l r = rw (div-one, e)
+    by zero e (suc j) l r = half-bit n j ∙ r j (omega arith)
+    by (suc d) e j l r = absurd (omega arith)
 
--- bit k + 1 of a number is bit k of its half
-next-bit : (n k : ℕ) → n / 2 ^ suc k ≡ n / 2 / 2 ^ k
-next-bit n k = rw (div-div-eq-div-mul, pow-suc, mul-comm (2 ^ k) 2)
+-- and that one is 1
+set-there : (k n : ℕ) → trailingZeros k n < k → bitSet n (trailingZeros k n) ≡ true
+unfolding trailingZeros
+set-there zero n l = absurd (omega arith)
+set-there (suc k) n l = by (n % 2) refl (mod-lt n (zero-lt-suc 1)) l (λ m. set-there k (n / 2) m)
+  where
+    by : (d : ℕ) → n % 2 ≡ d → d < 2 → under d (trailingZeros k (n / 2)) < suc k → (trailingZeros k (n / 2) < k → bitSet (n / 2) (trailingZeros k (n / 2)) ≡ true) →
+        bitSet n (under d (trailingZeros k (n / 2))) ≡ true
+    by zero e b l r = half-bit n (trailingZeros k (n / 2)) ∙ r (omega arith)
+    by (suc zero) e b l r = rw (div-one, e)
+    by (suc (suc d)) e b l r = absurd (omega arith)
 
--- the ones of a number, each bit being looked at
-ones-set : (d n : ℕ) → n < 2 ^ d → ones n ≡ sumBelow d (λ k. one (bitSet n k))
-unfolding sumBelow
-ones-set zero n h = omega (arith, ap ones (lt-one h), ones-ones 0)
-ones-set (suc d) n h =
-    let low : n % 2 ≡ one (bitSet n 0) = rw div-one (lowest (n % 2) (mod-lt n (zero-lt-suc 1))) in
-    let high = sum-same d (λ k. one (bitSet n (suc k))) (λ k. one (bitSet (n / 2) k)) (λ k l. ap (λ m. one (eqb (m % 2) 1)) (next-bit n k)) in
-    let half : n / 2 < 2 ^ d = shr-lt d 1 (rw add-one h) in
-    omega (arith, ones-step n, sum-first d (λ k. one (bitSet n k)), high, low, ones-set d (n / 2) half)
+-- a bit of a number moved down by i
+bit-moved : (n i k : ℕ) → bitSet (n / 2 ^ i) k ≡ bitSet n (i + k)
+bit-moved n i k = rw (div-div-eq-div-mul, ← pow-add)
+
+-- the first bit from bit i on that is 1
+pub next-found : (mask i : ℕ) → NextBit mask i (i + trailingZeros 64 (mask / 2 ^ i))
+next-found mask i =
+    record {
+      low = omega arith;
+      clear = λ k l m.
+          let e : i + (k - i) ≡ k = omega arith in
+          subst (λ j. bitSet mask j ≡ false) e (sym (bit-moved mask i (k - i)) ∙ clear-below 64 (mask / 2 ^ i) (k - i) (omega arith));
+      found = λ l. sym (bit-moved mask i (trailingZeros 64 (mask / 2 ^ i))) ∙ set-there 64 (mask / 2 ^ i) (omega arith);
+    }
 
 -- the numbers that pass a test among n more are as many as the test says
 select-counts : (f : ℕ → Bool) (c n : ℕ) → length (select f (c + n)) ≡ length (select f c) + sumBelow n (λ i. one (f (c + i)))
@@ -66,4 +82,4 @@ ones-counted {w} {h} {c} {n} f mask fits s m =
     = sum-none (64 - n) (λ i. one (bitSet mask (n + i))) (λ i l. rw (m (n + i) (omega arith), le-ltb (c % w + (n + i)) w (let r = s .whole (omega arith) in omega arith))) in
     let all : sumBelow 64 (λ i. one (bitSet mask i)) ≡ sumBelow n (λ i. one (bitSet mask i)) + sumBelow (64 - n) (λ i. one (bitSet mask (n + i)))
     = ap (λ d. sumBelow d (λ i. one (bitSet mask i))) split ∙ sum-add n (64 - n) (λ i. one (bitSet mask i)) in
-    omega (arith, select-counts f c n, first, rest, all, ones-set 64 mask fits)
+    omega (arith, select-counts f c n, first, rest, all, ones-are 64 mask fits)

@@ -1,8 +1,8 @@
 -- The numbers that pass a test, as a loop writes them into a list, or reads them there. Assumes nothing.
-use Prim.Native.Nat.{ℕ, _+_, _≤_, _<_}
+use Prim.Native.Nat.{ℕ, _+_, _-_, _≤_, _<_}
 use mathlib.Core.Bool.{Bool, true, false, _&&_}
 use mathlib.Core.List.{List, _++_}
-use mathlib.Core.Path.{_≡_, sym, ap, _∙_}
+use mathlib.Core.Path.{_≡_, sym, ap, subst, _∙_}
 use native.Mathlib.Omega.{arith}
 use lib.Dec.{ltb, eqb}
 use lib.ListN.{length, getD, set, take, drop, length-append, length-take}
@@ -12,7 +12,7 @@ use Rattle.floor.specs.Refusals.{Tells}
 use Rattle.ground.proofs.Logic.{and-left, and-right, not-both}
 use Rattle.marks.specs.Lists.{select}
 use Rattle.marks.specs.Listing.{Written, Read, Told}
-use Rattle.marks.proofs.Selects.{select-none, select-taken, select-passed, length-taken, length-passed, select-first, select-same, select-fewer, select-entry, written-long, written-more, take-more}
+use Rattle.marks.proofs.Selects.{select-none, select-taken, length-taken, select-first, select-same, select-fewer, select-entry, written-long, written-more, take-more}
 
 module _ (f : ℕ → Bool) where
   -- ---- written
@@ -21,10 +21,6 @@ module _ (f : ℕ → Bool) where
   none-written lent = record { count = rw select-none; list = rw select-none }
 
   module _ (lent now : List ℕ) (n k : ℕ) (s : Written f lent n now k) where
-    -- a number that does not pass is not written
-    pub write-passed : f n ≡ false → Written f lent (n + 1) now k
-    write-passed e = record { count = s .count ∙ sym (length-passed f n e); list = rw (select-passed f n e) (s .list) }
-
     -- the list keeps its length
     pub write-long : length (select f n) ≤ length lent → length now ≡ length lent
     write-long l = ap length (s .list) ∙ written-long (select f n) lent l
@@ -34,7 +30,7 @@ module _ (f : ℕ → Bool) where
       fewer : length (select f n) < length lent
       fewer = let a = select-fewer f n m l e in omega arith
 
-      -- there is room for one that does
+      -- there is room for one that passes
       pub write-room : k < length now
       write-room = let a = fewer in omega (arith, s .count, write-long (omega arith))
 
@@ -66,9 +62,12 @@ module _ (f : ℕ → Bool) where
               (rw (long, s .list) (drop-append-add (select f n) _ (length rest) ∙ drop-drop (length rest) (length (select f n)) lent));
         }
 
-    -- where none of the next i numbers passes there is nothing to write
-    pub write-none : (i : ℕ) → ((j : ℕ) → j < i → f (n + j) ≡ false) → Written f lent (n + i) now k
-    write-none i e = record { count = rw (select-same f n i e) (s .count); list = rw (select-same f n i e) (s .list) }
+    -- where none of the numbers from n to m passes there is nothing to write
+    pub write-none : (m : ℕ) → n ≤ m → ((j : ℕ) → j < m - n → f (n + j) ≡ false) → Written f lent m now k
+    write-none m l e =
+        let p : n + (m - n) ≡ m = omega arith in
+        subst (λ t. Written f lent t now k) p
+        (record { count = rw (select-same f n (m - n) e) (s .count); list = rw (select-same f n (m - n) e) (s .list) })
 
   -- ---- read
   -- at first none
@@ -76,11 +75,7 @@ module _ (f : ℕ → Bool) where
   none-read xs = record { count = rw select-none; first = rw select-none }
 
   module _ (xs : List ℕ) (n k : ℕ) (s : Read f xs n k) where
-    -- a number that does not pass is not looked for
-    pub read-passed : f n ≡ false → Read f xs (n + 1) k
-    read-passed e = record { count = s .count ∙ sym (length-passed f n e); first = rw (select-passed f n e) (s .first) }
-
-    -- one that does is the next entry
+    -- a number that passes is the next entry
     pub read-taken : f n ≡ true → (ltb k (length xs) && eqb (getD xs k 0) n) ≡ true → Read f xs (n + 1) (k + 1)
     read-taken e t =
         record {
@@ -96,9 +91,12 @@ module _ (f : ℕ → Bool) where
         let b : getD xs k 0 ≡ n = rw (p, s .count) (select-entry f n m l e) in
         rw (lt-ltb k (length xs) a) (eq-eqb (getD xs k 0) n b)
 
-    -- where none of the next i numbers passes there is nothing to look for
-    pub read-none : (i : ℕ) → ((j : ℕ) → j < i → f (n + j) ≡ false) → Read f xs (n + i) k
-    read-none i e = record { count = rw (select-same f n i e) (s .count); first = rw (select-same f n i e) (s .first) }
+    -- where none of the numbers from n to m passes there is nothing to look for
+    pub read-none : (m : ℕ) → n ≤ m → ((j : ℕ) → j < m - n → f (n + j) ≡ false) → Read f xs m k
+    read-none m l e =
+        let p : n + (m - n) ≡ m = omega arith in
+        subst (λ t. Read f xs t k) p
+        (record { count = rw (select-same f n (m - n) e) (s .count); first = rw (select-same f n (m - n) e) (s .first) })
 
     -- no more are read than there are entries
     read-few : k ≤ length xs

@@ -171,12 +171,12 @@ module _ (w h : ℕ) (words : List ℕ) (d c n : ℕ) (k : Chunk w h c n) (steps
   module _ {r : ℕ} {entry now : List ℕ} (o : Marking w h words d r entry now) (here : rank (w * h) d (c + i) ≡ r) (m : d < 4) (long : 4 * (w * h) ≤ length entry) where
     -- all that writing the entry takes
     pub bits-ready : Floor w h words →
-        ((d < 4) × ((c + i < 16384) × ((w < 256) × (4 * (c + i) + d < length now))))
+        ((c + i < 16384) × ((w < 256) × (4 * (c + i) + d < length now)))
         × ((a ≡ true → NextIn w (length now) (c + i) d) × (byBits a b w now (placeOf w (c + i)) d ≤ 255))
     bits-ready f =
         let x = bits-inside in
         let e = o .as-long in (
-          (m, (omega (arith, f .few-cells), (omega (arith, f .sized .wide), omega arith))),
+          (omega (arith, f .few-cells), (omega (arith, f .sized .wide), omega arith)),
           (bits-in (length now) (omega arith) m, rw (bits-next now) (mark-small o (c + i) x here m f)),
         )
 

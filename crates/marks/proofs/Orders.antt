@@ -1,18 +1,21 @@
 -- The order in which a direction's cells are met, what a pass has made right so far, and that an entry made by the next one is right.
 -- Assumes nothing.
 use Prim.Native.Nat.{ℕ, zero, suc, pred, _+_, _-_, _*_, _/_, _%_, _≤_, _<_}
+use mathlib.Core.Bool.{Bool, true, false, not, cond}
 use mathlib.Core.List.{List}
-use mathlib.Core.Path.{_≡_, ap, subst}
+use mathlib.Core.Path.{_≡_, ap, subst, refl, _∙_}
 use native.Mathlib.Decide.{decLe}
 use native.Mathlib.Nat.{suc-mul}
+use native.Mathlib.Numerals.{one-add}
 use native.Mathlib.Omega.{arith}
+use lib.Dec.{eqb}
 use lib.ListN.{getD}
 use Rattle.floor.specs.Board.{Place, at, Free, dirAt, go}
 use Rattle.floor.specs.Words.{board, numberOf, placeOf, cellOf}
 use Rattle.floor.proofs.Below.{below}
 use Rattle.ground.proofs.Cells.{column-inside, row-inside}
 use Rattle.marks.specs.Marks.{ClearanceAt, Cleared}
-use Rattle.marks.specs.Marking.{byNext, NextFrom, rank, Right, Agrees, ChunkAgrees, WayAgrees}
+use Rattle.marks.specs.Marking.{byBits, byNext, aheadOf, backOf, NextIn, rank, Right, Agrees, ChunkAgrees, WayAgrees}
 use Rattle.ground.proofs.Numbers.{number-of-cell, column-in, row-in, within, free-cell, place-of-free}
 use Rattle.marks.proofs.Recurrence.{one-clearance, by-next}
 
@@ -30,23 +33,41 @@ pub row-above : (w y : ℕ) → 0 < y → y * w ≡ pred y * w + w
 row-above w zero l = absurd (omega arith)
 row-above w (suc y) l = suc-mul y w
 
--- the number of the next cell, by the direction
-module _ (w c n d : ℕ) (t : NextFrom w c n d) where
-  -- north
-  pub next-north : d ≡ 0 → c ≡ n + w
-  next-north e = subst (NextFrom w c n) e t
+-- a number or 0 is no more than the number
+pub cond-few : (b : Bool) (x : ℕ) → cond b x 0 ≤ x
+cond-few true x = omega arith
+cond-few false x = omega arith
 
-  -- east
-  pub next-east : d ≡ 1 → n ≡ c + 1
-  next-east e = subst (NextFrom w c n) e t
+-- the next cell's number is not far ahead
+pub ahead-few : (w d : ℕ) → aheadOf w d ≤ suc w
+ahead-few w d = by (eqb d 1) (eqb d 2)
+  where
+    by : (a b : Bool) → cond a 1 (cond b w 0) ≤ suc w
+    by true b = omega arith
+    by false true = omega arith
+    by false false = omega arith
 
-  -- south
-  pub next-south : d ≡ 2 → n ≡ c + w
-  next-south e = subst (NextFrom w c n) e t
+-- ---- the cell whose entry is read: the next one where there is a step, else the cell itself
+module _ (w size c d : ℕ) (own : 4 * c + d < size) where
+  -- it has a number
+  pub read-back : (s : Bool) → (s ≡ true → NextIn w size c d) → cond s (backOf w d) 0 ≤ c + cond s (aheadOf w d) 0
+  read-back true n = omega (arith, n refl .number)
+  read-back false n = omega arith
 
-  -- west
-  pub next-west : d ≡ 3 → c ≡ n + 1
-  next-west e = subst (NextFrom w c n) e t
+  -- and an entry
+  pub read-in : (s : Bool) → (s ≡ true → NextIn w size c d) → 4 * (c + cond s (aheadOf w d) 0 - cond s (backOf w d) 0) + d < size
+  read-in true n = omega (arith, n refl .number, n refl .entry-in)
+  read-in false n = omega arith
+
+  -- of which the clearance is made
+  pub read-made : (clear : List ℕ) (s t : Bool) → (s ≡ true → NextIn w size c d) →
+      cond s (1 + cond (not t) (getD clear (4 * (c + cond s (aheadOf w d) 0 - cond s (backOf w d) 0) + d) 0) 0) 0 ≡ byBits s t w clear (placeOf w c) d
+  unfolding byBits
+  read-made clear true true n = refl
+  read-made clear true false n =
+      let e : c + aheadOf w d - backOf w d ≡ cellOf w (go (dirAt d) (placeOf w c)) = omega (arith, n refl .number) in
+      ap (λ m. 1 + getD clear (4 * m + d) 0) e ∙ one-add _
+  read-made clear false t n = refl
 
 module _ (w h : ℕ) (words : List ℕ) where
   -- the next cell in a direction is met before

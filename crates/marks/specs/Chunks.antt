@@ -1,6 +1,6 @@
 -- Chunks: up to 64 neighbouring cells of a row, which are bits of one mask. These are states of code.
 use Prim.Native.Nat.{ℕ, _+_, _-_, _*_, _%_, _≤_, _<_}
-use mathlib.Core.Bool.{Bool, _&&_}
+use mathlib.Core.Bool.{Bool, true, false, _&&_}
 use mathlib.Core.Path.{_≡_}
 use lib.Dec.{ltb}
 use Rattle.floor.specs.Masks.{bitSet}
@@ -31,3 +31,9 @@ RowBits w f c mask = (i : ℕ) → i < 64 → c % w + i < w → bitSet mask i �
 -- cell c + i stands in the row of cell c, and f says so of it
 abbrev pub inRow : ℕ → (ℕ → Bool) → ℕ → ℕ → Bool
 inRow w f c i = ltb (c % w + i) w && f (c + i)
+
+-- bit r is the first one from bit i on that is 1; where r is 64 or more there is none
+pub record NextBit (mask i r : ℕ) : Type 0 where
+  pub low : i ≤ r
+  pub clear : (k : ℕ) → i ≤ k → k < r → bitSet mask k ≡ false
+  pub found : r < 64 → bitSet mask r ≡ true

@@ -1,9 +1,10 @@
 -- What marking computes cell by cell. These are values and states of code; proofs/ ties them to the plan's definitions.
-use Prim.Native.Nat.{ℕ, zero, suc, _+_, _-_, _*_, _≤_, _<_}
+use Prim.Native.Nat.{ℕ, suc, _+_, _-_, _*_, _≤_, _<_}
 use mathlib.Core.Bool.{Bool, cond, _&&_}
 use mathlib.Core.List.{List, [], _∷_}
 use mathlib.Core.Logic.{_≢_}
 use mathlib.Core.Path.{_≡_}
+use lib.Dec.{eqb}
 use lib.ListN.{length, getD}
 use Rattle.floor.specs.Board.{Board, Place, dirAt, go, corner}
 use Rattle.floor.specs.Words.{board, placeOf, cellOf}
@@ -30,16 +31,17 @@ byBits steps turns w clear p d = cond steps (cond turns 1 (suc (entryAt w clear 
 abbrev pub byNext : Board → ℕ → List ℕ → Place → ℕ → ℕ
 byNext B w clear p d = byBits (stepsTo B p d) (turnsTo B p d) w clear p d
 
--- cell n is the next one of cell c in direction d
-abbrev pub NextFrom : ℕ → ℕ → ℕ → ℕ → Type 0
-NextFrom w c n zero = c ≡ n + w
-NextFrom w c n (suc zero) = n ≡ c + 1
-NextFrom w c n (suc (suc zero)) = n ≡ c + w
-NextFrom w c n (suc (suc (suc d))) = c ≡ n + 1
+-- how far ahead the number of the next cell in direction d lies
+abbrev pub aheadOf : ℕ → ℕ → ℕ
+aheadOf w d = cond (eqb d 1) 1 (cond (eqb d 2) w 0)
+
+-- or how far back
+abbrev pub backOf : ℕ → ℕ → ℕ
+backOf w d = cond (eqb d 0) w (cond (eqb d 3) 1 0)
 
 -- the next place of cell c in direction d is that of a cell, which has its entry in a list
 pub record NextIn (w size c d : ℕ) : Type 0 where
-  pub number : NextFrom w c (cellOf w (go (dirAt d) (placeOf w c))) d
+  pub number : cellOf w (go (dirAt d) (placeOf w c)) + backOf w d ≡ c + aheadOf w d
   pub entry-in : 4 * cellOf w (go (dirAt d) (placeOf w c)) + d < size
 
 -- ---- what a pass has done

@@ -1,7 +1,7 @@
 // Clearances and turning points: written, and recognised. A row is taken 64 cells at a time, a chunk, by the floor's masks.
 ghost use mathlib.Core.Path.{_≡_};
 ghost use Prim.Native.Nat.{_+_, _-_, _*_, _%_, _<_, _≤_};
-ghost use mathlib.Core.Bool.{true, _&&_};
+ghost use mathlib.Core.Bool.{true, cond, _&&_};
 ghost use lib.Dec.{eqb, ltb};
 ghost use lib.ListN.{length, getD, set};
 ghost use Rattle.floor.specs.Refusals.{Tells};
@@ -10,9 +10,8 @@ ghost use Rattle.floor.specs.Words.{board, placeOf, numberOf, Floor, cellOf};
 ghost use Rattle.marks.specs.Lists.{written};
 ghost use Rattle.marks.specs.Listing.{Written, Read, Told};
 ghost use Rattle.marks.specs.Marks.{cornerCell, cornerCells, Cleared};
-ghost use Rattle.marks.specs.Chunks.{Chunk, Span, LastSpan, RowBits, inRow};
-ghost use Rattle.marks.specs.Marking.{stepsTo, turnsTo, byBits, NextFrom, NextIn, Upward, Downward, Right, Marking, MarkedAll, ChunkAgrees, WayAgrees};
-ghost use Rattle.floor.specs.Board.{dirAt, go};
+ghost use Rattle.marks.specs.Chunks.{Chunk, Span, LastSpan, RowBits, inRow, NextBit};
+ghost use Rattle.marks.specs.Marking.{stepsTo, turnsTo, byBits, aheadOf, backOf, NextIn, Upward, Downward, Right, Marking, MarkedAll, ChunkAgrees, WayAgrees};
 
 // Whether a cell is a turning point.
 pub fn corner_cell(words: &[u64], w: usize, h: usize, cell: usize) -> bool
@@ -28,6 +27,18 @@ fn bit(mask: u64, i: usize) -> bool
     ensures { λ r. ⌜ r ≡ bitSet mask i ⌝ }
 {
     (mask >> i) % 2 == 1
+}
+
+// The first bit from bit i on that is 1; 64 or more where there is none.
+fn next_bit(mask: u64, i: usize) -> usize
+    requires { ⌜ i ≤ 64 ⌝ }
+    ensures { λ r. ⌜ NextBit mask i r ⌝ }
+{
+    if i < 64 {
+        i + u64::trailing_zeros(mask >> i) as usize
+    } else {
+        64
+    }
 }
 
 // How many cells the chunk from a cell on has: 64, or those to the row's end.
@@ -100,17 +111,12 @@ fn mark_chunk(
     ensures { λ r. ⌜ Written (cornerCell w h (now (words .entry))) (now (corners .entry)) (cell + count) (now (corners .exit)) r ⌝ }
 {
     let mask = corner_bits(words, w, h, cell);
-    if mask == 0 {
-        return k;
-    }
     let mut to = k;
-    let mut i = 0;
+    let mut i = next_bit(mask, 0);
     while i < count {
-        if bit(mask, i) {
-            corners[to] = (cell + i) as u16;
-            to += 1;
-        }
-        i += 1;
+        corners[to] = (cell + i) as u16;
+        to += 1;
+        i = next_bit(mask, i + 1);
     }
     to
 }
@@ -137,41 +143,54 @@ pub fn clearance(clear: &[u8], w: usize, x: usize, y: usize, dir: usize) -> usiz
     clear[4 * (y * w + x) + dir] as usize
 }
 
-// The number of the next cell in direction dir, 0 to 3.
-fn next_cell(w: usize, cell: usize, dir: usize) -> usize
-    requires { ⌜ (dir < 4) × ((cell < 16384) × ((w < 256) × NextFrom w cell (cellOf w (go (dirAt dir) (placeOf w cell))) dir)) ⌝ }
-    ensures { λ r. ⌜ r ≡ cellOf w (go (dirAt dir) (placeOf w cell)) ⌝ }
+// A number, or 0. A product, and no branch: the processor would guess it wrong too often.
+fn times(b: bool, x: usize) -> usize
+    ensures { λ r. ⌜ r ≡ cond b x 0 ⌝ }
 {
-    if dir == 0 {
-        cell - w
-    } else if dir == 1 {
-        cell + 1
-    } else if dir == 2 {
-        cell + w
-    } else {
-        cell - 1
-    }
+    b as usize * x
 }
 
-// The clearance of a cell by two bits, that the step is legal and that it leads to a turning point, and by that of the next cell.
-fn by_bits(clear: &[u8], w: usize, cell: usize, dir: usize, steps: bool, turns: bool) -> usize
-    requires { ⌜ (dir < 4) × ((cell < 16384) × ((w < 256) × (steps ≡ true → NextIn w (length (now clear)) cell dir))) ⌝ }
-    ensures { λ r. ⌜ r ≡ byBits steps turns w (now (clear .entry)) (placeOf w cell) dir ⌝ }
+// How far ahead the number of the next cell in direction dir lies.
+fn ahead(w: usize, dir: usize) -> usize
+    ensures { λ r. ⌜ r ≡ aheadOf w dir ⌝ }
 {
-    if steps {
-        if turns {
-            1
-        } else {
-            1 + clear[4 * next_cell(w, cell, dir) + dir] as usize
-        }
+    if dir == 1 {
+        1
+    } else if dir == 2 {
+        w
     } else {
         0
     }
 }
 
+// How far back the number of the next cell in direction dir lies.
+fn back(w: usize, dir: usize) -> usize
+    ensures { λ r. ⌜ r ≡ backOf w dir ⌝ }
+{
+    if dir == 0 {
+        w
+    } else if dir == 3 {
+        1
+    } else {
+        0
+    }
+}
+
+// The clearance of a cell by two bits, that the step is legal and that it leads to a turning point, and by that of the next cell.
+fn by_bits(clear: &[u8], w: usize, cell: usize, dir: usize, steps: bool, turns: bool) -> usize
+    requires ready { ⌜ (cell < 16384) × ((w < 256) × (4 * cell + dir < length (now clear))) ⌝ }
+    requires next { ⌜ (steps ≡ true → NextIn w (length (now clear)) cell dir) ⌝ }
+    ensures { λ r. ⌜ r ≡ byBits steps turns w (now (clear .entry)) (placeOf w cell) dir ⌝ }
+{
+    let a = times(steps, ahead(w, dir));
+    let b = times(steps, back(w, dir));
+    let v = clear[4 * (cell + a - b) + dir] as usize;
+    times(steps, 1 + times(!turns, v))
+}
+
 // Writes the clearance of one cell in one direction by its two bits.
 fn mark_bit(clear: &mut [u8], w: usize, cell: usize, dir: usize, steps: bool, turns: bool)
-    requires ready { ⌜ (dir < 4) × ((cell < 16384) × ((w < 256) × (4 * cell + dir < length (now clear)))) ⌝ }
+    requires ready { ⌜ (cell < 16384) × ((w < 256) × (4 * cell + dir < length (now clear))) ⌝ }
     requires next { ⌜ (steps ≡ true → NextIn w (length (now clear)) cell dir) × (byBits steps turns w (now clear) (placeOf w cell) dir ≤ 255) ⌝ }
     ensures { λ r. ⌜ now (clear .exit) ≡ set (now (clear .entry)) (4 * cell + dir) (byBits steps turns w (now (clear .entry)) (placeOf w cell) dir) ⌝ }
 {
@@ -348,20 +367,15 @@ fn chunk_listed(
     ensures { λ r. ⌜ Told (cornerCell w h (now (words .entry))) (now (corners .entry)) (cell + count) r ⌝ }
 {
     let mask = corner_bits(words, w, h, cell);
-    if mask == 0 {
-        return k;
-    }
     let mut to = k;
-    let mut i = 0;
+    let mut i = next_bit(mask, 0);
     while i < count {
-        if bit(mask, i) {
-            if is_entry(corners, to, cell + i) {
-                to += 1;
-            } else {
-                return corners.len() + 1;
-            }
+        if is_entry(corners, to, cell + i) {
+            to += 1;
+            i = next_bit(mask, i + 1);
+        } else {
+            return corners.len() + 1;
         }
-        i += 1;
     }
     to
 }

@@ -61,17 +61,10 @@ by-bits-requires c κs =
     let n = b .before .before in
     let m = n .before in
     let a = entry b .args in
-    let p = entry b .pre in
-    let d = p .1 .1 .1 in (
-      d,
-      (
-        small b,
-        (
-          omega (arith, p .0 .sized .wide),
-          bits-in (a .w) (a .h) (now (a .words)) (a .dir) _ _ (p .1 .1 .0) _ _ (m .step-bits .ensures) (n .turn-bits .ensures)
-              _ _ (b .before .loop .i) (b .loop-test .taken) (c .before .bit .ensures) (c .bit2 .ensures) _ (p .1 .0) d,
-        ),
-      ),
+    let p = entry b .pre in (
+      (small b, (omega (arith, p .0 .sized .wide), omega (arith, inside b, p .1))),
+      bits-in (a .w) (a .h) (now (a .words)) (a .dir) _ _ (p .1 .1 .0) _ _ (m .step-bits .ensures) (n .turn-bits .ensures)
+          _ _ (b .before .loop .i) (b .loop-test .taken) (c .before .bit .ensures) (c .bit2 .ensures) _ (p .1 .0) (p .1 .1 .1),
     )
 
 -- so what is computed is what the next entry makes of this one

@@ -6,7 +6,7 @@ use Rattle.marks.proofs.mark_bit.Tie as tie
 by-bits-requires : tie.Need-by-bits-requires
 by-bits-requires c κs =
     let p = c .before .before .pre in
-    (p .0 .0, (p .0 .1 .0, (p .0 .1 .1 .0, p .1 .0)))
+    (p .0, p .1 .0)
 
 returns : tie.Need-returns
 returns c = rw (c .by-bits .ensures)
