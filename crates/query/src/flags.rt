@@ -6,7 +6,14 @@ ghost use Rattle.search.specs.Places.{indexOf};
 ghost use Rattle.query.specs.Flags.{Among, FlagRoom, Flaggable, Flagging, AllFlagged};
 
 // Sets the flags of the corners that are the first `end` entries of a list.
-fn flag_listed(corners: &[u16], work: &mut [u32], n: usize, column: usize, found: &[u16], end: usize)
+fn flag_listed(
+    corners: &[u16],
+    work: &mut [u32],
+    n: usize,
+    column: usize,
+    found: &[u16],
+    end: usize,
+)
     requires room { ⌜ FlagRoom (now corners) n column (now work) ⌝ }
     requires listed { ⌜ (end ≤ length (now found)) × ((j : ℕ) → j < end → indexOf (now corners) (getD (now found) j 0) < length (now corners)) ⌝ }
     ensures { λ r. ⌜ Flagging (Among (now (found .entry)) end) (now (corners .entry)) n column (now (work .entry)) (now (work .exit)) × AllFlagged (Among (now (found .entry)) end) (now (corners .entry)) n column (now (work .exit)) ⌝ }

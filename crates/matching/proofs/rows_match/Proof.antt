@@ -49,7 +49,7 @@ cast-cell : tie.Need-cast-cell Inv-loop μ-loop
 cast-cell c = omega (arith, c .shared-slice-known8 .given (c .before .before .before .before .loop .k))
 
 row-matches-requires : tie.Need-row-matches-requires Inv-loop μ-loop
-row-matches-requires c κs = 
+row-matches-requires c κs =
     let i = c .before .before .before .before in
     let p = i .before .before .before .before .before .before .before .before .pre in
     let k = i .before .loop .k in
@@ -62,7 +62,7 @@ row-matches-requires c κs =
     )
 
 loop-again : tie.Need-loop-again Inv-loop μ-loop
-loop-again c = 
+loop-again c =
     let i = c .before .before .before .before .before .before .before .before .before .loop in (
       omega arith,
       c .before .before .before .row-matches .kept .1 .1 .1 .1 .1 .1 .1 .1 .0 ∙ i .inv .1,
@@ -73,7 +73,7 @@ same-length : tie.Need-same-length Inv-loop μ-loop
 same-length c = c .before .before .before .row-matches .kept .1 .1 .1 .1 .1 .1 .1 .1 .0 ∙ c .before .before .before .before .before .before .before .before .before .loop .inv .1
 
 returns : tie.Need-returns Inv-loop μ-loop
-returns c = 
+returns c =
     let i = c .before .before .before .before .before .before .before .before in
     let p = i .before .before .before .before .before .before .before .before .pre in
     let k = i .before .loop .k in
@@ -83,7 +83,7 @@ same-length-2 : tie.Need-same-length-2 Inv-loop μ-loop
 same-length-2 c = c .before .loop .inv .1
 
 returns-2 : tie.Need-returns-2 Inv-loop μ-loop
-returns-2 c = 
+returns-2 c =
     let l = c .before in
     found (λ k m. rw (← add-one k) (rw (← (l .before .before .before .before .before .before .before .pre .1 .1 .0 .0)) at (l .loop .inv .2 k (omega arith))))
 

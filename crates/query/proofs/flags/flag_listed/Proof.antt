@@ -29,7 +29,7 @@ find-requires : tie.Need-find-requires Inv-loop μ-loop
 find-requires c κs = c .before .before .before .before .before .before .pre .0 .ascending
 
 put-requires : tie.Need-put-requires Inv-loop μ-loop
-put-requires c κs = 
+put-requires c κs =
     let l = c .before .before .before .before in
     let s = l .before .before .before .before in
     let room = same-room (s .pre .0) (l .loop .inv .1 .only) in
@@ -38,7 +38,7 @@ put-requires c κs =
     record { column = room .column; place = rw (c .before .find .ensures) (omega arith); room = room .room }
 
 loop-again : tie.Need-loop-again Inv-loop μ-loop
-loop-again c = 
+loop-again c =
     let l = c .before .before .before .before .before .before .before in
     let s = l .before .before .before .before in
     let i = l .loop .i in
@@ -57,7 +57,7 @@ same-length : tie.Need-same-length Inv-loop μ-loop
 same-length c = c .before .loop .inv .1 .only .sized
 
 returns : tie.Need-returns Inv-loop μ-loop
-returns c = 
+returns c =
     let l = c .before .loop in
     (l .inv .1, λ t a. rw (← a .2) (l .inv .2 (a .0) (omega (arith, a .1))))
 
