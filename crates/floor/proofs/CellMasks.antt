@@ -12,7 +12,7 @@ use borrow.Author.Tests.{lt-ltb, le-ltb}
 use Rattle.floor.specs.Board.{Board, Place, corner, nook, dirAt, go}
 use Rattle.floor.specs.Masks.{bitSet, Mask, Next, Last, nookTest, spot}
 use Rattle.floor.specs.Words.{bitClear, bitFree, rowWords, rowOf, freeIn, board, IsRow, Floor}
-use Rattle.floor.proofs.Bits.{none-mask, unset-clear, and-bit, or-bit}
+use Rattle.floor.proofs.Bits.{none-mask, and-bit, or-bit}
 use Rattle.floor.proofs.FreeCells.{row-used}
 use Rattle.floor.proofs.Places.{freeIn-past, free-inside}
 
@@ -54,12 +54,11 @@ module _ (w h : ℕ) (words : List ℕ) where
 
   -- a bit of word j of row y that is not 1 is that of a free cell
   pub free-bit : (y j : ℕ) (row : List ℕ) → Floor w h words → (y ≡ 0 → ⊥) → y ≤ h → j < rowWords w →
-      IsRow w words (y - 1) row → (i : ℕ) → i < 64 → not (bitSet (getD row j 0) i) ≡ board w h words (suc (64 * j + i)) y
+      IsRow w words (y - 1) row → (i : ℕ) → i < 64 → bitClear (getD row j 0) i ≡ board w h words (suc (64 * j + i)) y
   free-bit y j row f n ly lj r i l =
       let word : j ≡ (64 * j + i) / 64 = omega arith in
       let bit : i ≡ (64 * j + i) % 64 = omega arith in
-      unset-clear (getD row j 0) i
-      ∙ ap₂ (λ a b. bitClear (getD row a 0) b) word bit
+      ap₂ (λ a b. bitClear (getD row a 0) b) word bit
       ∙ rw (r .same) (bit-free f (64 * j + i) (y - 1) (omega (arith, n)) (omega arith))
       ∙ free-inside w h words y (rowOf w words (y - 1)) n ly refl (suc (64 * j + i))
 

@@ -3,7 +3,8 @@
 ghost use mathlib.Core.Bool.{_&&_, not};
 ghost use Prim.Native.Nat.{suc, _+_, _*_, _<_, _≤_};
 ghost use Rattle.floor.specs.Board.{E, W, corner, dirAt, go};
-ghost use Rattle.floor.specs.Words.{board, Floor};
+ghost use lib.ListN.{length, getD};
+ghost use Rattle.floor.specs.Words.{bitClear, board, Floor};
 ghost use Rattle.floor.specs.Masks.{bitSet, Mask, Next, Last, nookTest, spot};
 use super::row_of;
 use super::row_words;
@@ -29,6 +30,14 @@ fn flipped(a: u64) -> u64
     18446744073709551615 - a
 }
 
+// The free cells of word j of a row, which is lent as a part of the floor's words: the bits that are 0.
+fn row_mask(row: &[u64], j: usize) -> u64
+    requires { ⌜ j < length (now row) ⌝ }
+    ensures { λ r. ⌜ Mask (λ i. bitClear (getD (now (row .entry)) j 0) i) r ⌝ }
+{
+    flipped(row[j])
+}
+
 // The free cells of word j of row y.
 fn free_mask(words: &[u64], w: usize, h: usize, y: usize, j: usize) -> u64
     requires { ⌜ Floor w h (now words) ⌝ }
@@ -44,8 +53,7 @@ fn free_mask(words: &[u64], w: usize, h: usize, y: usize, j: usize) -> u64
     if n <= j {
         return 0;
     }
-    let row = row_of(words, w, h, y - 1);
-    flipped(row[j])
+    row_mask(row_of(words, w, h, y - 1), j)
 }
 
 // The free cells one column after those of word j of row y.
