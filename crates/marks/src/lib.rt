@@ -135,12 +135,21 @@ pub fn mark_corners(words: &[u64], w: usize, h: usize, corners: &mut [u16])
     }
 }
 
-// The clearance of cell (x, y) in direction dir, 0 to 3. Whoever reads a clearance reads it here.
+// The clearance of a cell, by its number, in direction dir, 0 to 3. Whoever reads a clearance reads it here.
+fn entry(clear: &[u8], cell: usize, dir: usize) -> usize
+    requires { ⌜ 4 * cell + dir < length (now clear) ⌝ }
+    ensures same { λ r. ⌜ r ≡ getD (now (clear .entry)) (4 * cell + dir) 0 ⌝ }
+    ensures byte { λ r. ⌜ r < 256 ⌝ }
+{
+    clear[4 * cell + dir] as usize
+}
+
+// The clearance of cell (x, y) in direction dir.
 pub fn clearance(clear: &[u8], w: usize, x: usize, y: usize, dir: usize) -> usize
     requires { ⌜ 4 * numberOf w x y + dir < length (now clear) ⌝ }
     ensures { λ r. ⌜ r ≡ getD (now (clear .entry)) (4 * numberOf w x y + dir) 0 ⌝ }
 {
-    clear[4 * (y * w + x) + dir] as usize
+    entry(clear, y * w + x, dir)
 }
 
 // A number, or 0. A product, and no branch: the processor would guess it wrong too often.
@@ -184,7 +193,7 @@ fn by_bits(clear: &[u8], w: usize, cell: usize, dir: usize, steps: bool, turns: 
 {
     let a = times(steps, ahead(w, dir));
     let b = times(steps, back(w, dir));
-    let v = clear[4 * (cell + a - b) + dir] as usize;
+    let v = entry(clear, cell + a - b, dir);
     times(steps, 1 + times(!turns, v))
 }
 
@@ -299,7 +308,7 @@ fn chunk_matches(
     let mut i = 0;
     while i < count {
         let m = by_bits(clear, w, cell + i, dir, bit(steps, i), bit(turns, i));
-        if clear[4 * (cell + i) + dir] as usize == m {
+        if entry(clear, cell + i, dir) == m {
             i += 1;
         } else {
             return false;

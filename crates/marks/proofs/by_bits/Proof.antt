@@ -12,57 +12,51 @@ use Rattle.marks.proofs.by_bits.Statement.{statement}
 use Rattle.marks.proofs.by_bits.Tie as tie
 
 -- the function's entry
-abbrev entry : tie.After-times2 → tie.Start
-entry c = c .before .before .before .before .before
+abbrev start : tie.After-times2 → tie.Start
+start c = c .before .before .before .before .before
 
 -- what is added to the cell's number
-added : (c : tie.After-times2) → let a = entry c .args in c .before .before .times .result ≡ cond (a .steps) (aheadOf (a .w) (a .dir)) 0
-added c = let b = c .before .before in b .times .ensures ∙ ap (λ n. cond (entry c .args .steps) n 0) (b .before .ahead .ensures)
+added : (c : tie.After-times2) → let a = start c .args in c .before .before .times .result ≡ cond (a .steps) (aheadOf (a .w) (a .dir)) 0
+added c = let b = c .before .before in b .times .ensures ∙ ap (λ n. cond (start c .args .steps) n 0) (b .before .ahead .ensures)
 
 -- what is taken off
-taken : (c : tie.After-times2) → let a = entry c .args in c .times2 .result ≡ cond (a .steps) (backOf (a .w) (a .dir)) 0
-taken c = c .times2 .ensures ∙ ap (λ n. cond (entry c .args .steps) n 0) (c .before .back .ensures)
+taken : (c : tie.After-times2) → let a = start c .args in c .times2 .result ≡ cond (a .steps) (backOf (a .w) (a .dir)) 0
+taken c = c .times2 .ensures ∙ ap (λ n. cond (start c .args .steps) n 0) (c .before .back .ensures)
 
 -- the cell that is read has an entry
-inside : (c : tie.After-times2) → let a = entry c .args in 4 * (a .cell + c .before .before .times .result - c .times2 .result) + a .dir < length (now (a .clear))
+inside : (c : tie.After-times2) → let a = start c .args in 4 * (a .cell + c .before .before .times .result - c .times2 .result) + a .dir < length (now (a .clear))
 inside c =
-    let a = entry c .args in
-    let p = entry c .pre in
+    let a = start c .args in
+    let p = start c .pre in
     omega (arith, added c, taken c, read-in (a .w) (length (now (a .clear))) (a .cell) (a .dir) (p .0 .1 .1) (a .steps) (p .1))
 
-add-v : tie.Need-add-v
-add-v c =
-    let a = entry c .args in
-    omega (arith, added c, cond-few (a .steps) (aheadOf (a .w) (a .dir)), ahead-few (a .w) (a .dir), entry c .pre .0)
+add-entry : tie.Need-add-entry
+add-entry c =
+    let a = start c .args in
+    omega (arith, added c, cond-few (a .steps) (aheadOf (a .w) (a .dir)), ahead-few (a .w) (a .dir), start c .pre .0)
 
-sub-v : tie.Need-sub-v
-sub-v c =
-    let a = entry c .args in
-    let p = entry c .pre in
+sub-entry : tie.Need-sub-entry
+sub-entry c =
+    let a = start c .args in
+    let p = start c .pre in
     omega (arith, added c, taken c, read-back (a .w) (length (now (a .clear))) (a .cell) (a .dir) (p .0 .1 .1) (a .steps) (p .1))
 
--- an entry is a byte
-cast-v : tie.Need-cast-v
-cast-v c =
-    let b = c .before in
-    let a = entry b .args in
-    omega (arith, c .shared-slice-known2 .given (4 * (a .cell + b .before .before .times .result - b .times2 .result) + a .dir))
+entry-requires : tie.Need-entry-requires
+entry-requires c κs = inside c
 
 add-times : tie.Need-add-times
 add-times c =
     let k = c .before in
-    let b = k .before in
-    let a = entry b .args in
-    let n = 4 * (a .cell + b .before .before .times .result - b .times2 .result) + a .dir in
-    omega (arith, c .times3 .ensures, cond-few (not (a .turns)) (getD (now (a .clear)) n 0), k .shared-slice-known2 .given n)
+    omega (arith, c .times3 .ensures, cond-few (not (start (k .before) .args .turns)) (k .entry .result), k .entry .ensures .1)
 
 returns : tie.Need-returns
 returns c =
     let b = c .before .before .before in
-    let a = entry b .args in
-    let p = entry b .pre in
+    let a = start b .args in
+    let p = start b .pre in
     c .times4 .ensures
     ∙ ap (λ n. cond (a .steps) (1 + n) 0) (c .before .times3 .ensures)
+    ∙ ap (λ n. cond (a .steps) (1 + cond (not (a .turns)) n 0) 0) (c .before .before .entry .ensures .0)
     ∙ ap₂ (λ m n. cond (a .steps) (1 + cond (not (a .turns)) (getD (now (a .clear)) (4 * (a .cell + m - n) + a .dir) 0) 0) 0) (added b) (taken b)
     ∙ read-made (a .w) (length (now (a .clear))) (a .cell) (a .dir) (p .0 .1 .1) (now (a .clear)) (a .steps) (a .turns) (p .1)
 
@@ -74,12 +68,9 @@ by-bits-spec =
     (search needs)
     (search needs)
     (search needs)
-    add-v
-    sub-v
-    (λ c. omega (arith, inside c))
-    (λ c. omega (arith, inside c))
-    (λ c. inside (c .before))
-    cast-v
+    add-entry
+    sub-entry
+    entry-requires
     (search needs)
     add-times
     (search needs)

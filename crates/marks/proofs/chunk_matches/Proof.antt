@@ -21,12 +21,12 @@ abbrev μ-loop : tie.MeasureT-loop
 μ-loop words w h clear cell count dir steps turns i₀ i = count - i
 
 -- the function's entry
-abbrev entry : tie.In-loop Inv-loop μ-loop → tie.Start Inv-loop μ-loop
-entry c = c .before .before .before .before .before .before
+abbrev start : tie.In-loop Inv-loop μ-loop → tie.Start Inv-loop μ-loop
+start c = c .before .before .before .before .before .before
 
 -- the cell whose entry is compared
 abbrev this : tie.In-loop Inv-loop μ-loop → ℕ
-this c = entry c .args .cell + c .before .loop .i
+this c = start c .args .cell + c .before .loop .i
 
 step-bits-requires : tie.Need-step-bits-requires Inv-loop μ-loop
 step-bits-requires c κs =
@@ -42,15 +42,15 @@ loop-holds : tie.Need-loop-holds Inv-loop μ-loop
 loop-holds c = (omega arith, below-none _)
 
 -- it is one of the floor's
-inside : (c : tie.In-loop Inv-loop μ-loop) → let a = entry c .args in this c < a .w * a .h
-inside c = omega (arith, chunk-ends (entry c .pre .1 .1 .0))
+inside : (c : tie.In-loop Inv-loop μ-loop) → let a = start c .args in this c < a .w * a .h
+inside c = omega (arith, chunk-ends (start c .pre .1 .1 .0))
 
 -- which are few
 small : (c : tie.In-loop Inv-loop μ-loop) → this c < 16384
-small c = omega (arith, inside c, entry c .pre .0 .few-cells)
+small c = omega (arith, inside c, start c .pre .0 .few-cells)
 
 bit-requires : tie.Need-bit-requires Inv-loop μ-loop
-bit-requires c κs = omega (arith, entry c .pre .1 .1 .0 .few)
+bit-requires c κs = omega (arith, start c .pre .1 .1 .0 .few)
 
 bit-requires-2 : tie.Need-bit-requires-2 Inv-loop μ-loop
 bit-requires-2 c κs = bit-requires (c .before) κs
@@ -60,8 +60,8 @@ by-bits-requires c κs =
     let b = c .before .before in
     let n = b .before .before in
     let m = n .before in
-    let a = entry b .args in
-    let p = entry b .pre in (
+    let a = start b .args in
+    let p = start b .pre in (
       (small b, (omega (arith, p .0 .sized .wide), omega (arith, inside b, p .1))),
       bits-in (a .w) (a .h) (now (a .words)) (a .dir) _ _ (p .1 .1 .0) _ _ (m .step-bits .ensures) (n .turn-bits .ensures)
           _ _ (b .before .loop .i) (b .loop-test .taken) (c .before .bit .ensures) (c .bit2 .ensures) _ (p .1 .0) (p .1 .1 .1),
@@ -70,44 +70,39 @@ by-bits-requires c κs =
 -- so what is computed is what the next entry makes of this one
 made : (c : tie.After-by-bits Inv-loop μ-loop) →
     let b = c .before .before .before in
-    let a = entry b .args in
+    let a = start b .args in
     c .by-bits .result ≡ byNext (board (a .w) (a .h) (now (a .words))) (a .w) (now (a .clear)) (placeOf (a .w) (this b)) (a .dir)
 made c =
     let s = c .before in
     let b = s .before .before in
-    let a = entry b .args in
+    let a = start b .args in
     let n = b .before .before in
     let m = n .before in
-    let p = entry b .pre in
+    let p = start b .pre in
     c .by-bits .ensures ∙ bits-next (a .w) (a .h) (now (a .words)) (a .dir) _ _ (p .1 .1 .0) _ _ (m .step-bits .ensures) (n .turn-bits .ensures)
     _ _ (b .before .loop .i) (b .loop-test .taken) (s .before .bit .ensures) (s .bit2 .ensures) (now (a .clear))
 
 -- its entry is in the list
 entry-in : (c : tie.After-by-bits Inv-loop μ-loop) →
     let b = c .before .before .before in
-    let a = entry b .args in
+    let a = start b .args in
     4 * this b + a .dir < length (now (a .clear))
 entry-in c =
     let b = c .before .before .before in
-    omega (arith, inside b, entry b .pre .1)
+    omega (arith, inside b, start b .pre .1)
 
-shared-slice-read-if1 : tie.Need-shared-slice-read-if1 Inv-loop μ-loop
-shared-slice-read-if1 c = entry-in (c .before)
-
-cast-if1 : tie.Need-cast-if1 Inv-loop μ-loop
-cast-if1 c =
-    let b = c .before .before .before .before in
-    omega (arith, c .shared-slice-known3 .given (4 * this b + entry b .args .dir))
+entry-requires : tie.Need-entry-requires Inv-loop μ-loop
+entry-requires c κs = entry-in c
 
 loop-again : tie.Need-loop-again Inv-loop μ-loop
 loop-again c =
     let s = c .before .before in
-    (omega arith, below-more _ _ (s .before .before .before .before .loop .inv .1) (c .if1 .taken ∙ made s))
+    (omega arith, below-more _ _ (s .before .before .before .before .loop .inv .1) (sym (c .before .entry .ensures .0) ∙ c .if1 .taken ∙ made s))
 
 returns : tie.Need-returns Inv-loop μ-loop
 returns c =
     let s = c .before .before in
-    missing (λ a. c .if1 .left (a _ (s .before .before .before .loop-test .taken) ∙ sym (made s)))
+    missing (λ a. c .if1 .left (c .before .entry .ensures .0 ∙ a _ (s .before .before .before .loop-test .taken) ∙ sym (made s)))
 
 returns-2 : tie.Need-returns-2 Inv-loop μ-loop
 returns-2 c = found (λ k l. c .before .loop .inv .1 k (omega arith))
@@ -126,10 +121,7 @@ chunk-matches-spec =
     bit-requires-2
     by-bits-requires
     (λ c. omega (arith, small (c .before .before .before)))
-    (λ c. omega (arith, small (c .before .before .before)))
-    (λ c. omega (arith, entry-in c))
-    shared-slice-read-if1
-    cast-if1
+    entry-requires
     (search needs)
     (search needs)
     loop-again
