@@ -114,10 +114,6 @@ last-mask a b h f ma mb (suc i) l =
 pub none-mask : (f : ℕ → Bool) → ((i : ℕ) → i < 64 → false ≡ f i) → Mask f 0
 none-mask f e i l = zero-bit i ∙ e i l
 
--- what the word 0 is the mask of, no place has
-pub mask-none : (f : ℕ → Bool) (word : ℕ) → word ≡ 0 → Mask f word → (i : ℕ) → i < 64 → f i ≡ false
-mask-none f word e m i l = sym (m i l) ∙ ap (λ n. bitSet n i) e ∙ zero-bit i
-
 -- the ones of a number of d digits, each digit being looked at
 pub ones-are : (d n : ℕ) → n < 2 ^ d → ones n ≡ sumBelow d (λ k. one (bitSet n k))
 unfolding sumBelow
@@ -127,7 +123,3 @@ ones-are (suc d) n h =
     let high = sum-same d (λ k. one (bitSet n (suc k))) (λ k. one (bitSet (n / 2) k)) (λ k l. ap one (half-bit n k)) in
     let half : n / 2 < 2 ^ d = shr-lt d 1 (rw add-one h) in
     omega (arith, ones-step n, sum-first d (λ k. one (bitSet n k)), high, low, ones-are d (n / 2) half)
-
--- the ones of a mask are the places that have what it is the mask of
-pub mask-ones : (f : ℕ → Bool) (word : ℕ) → word < 2 ^ 64 → Mask f word → ones word ≡ sumBelow 64 (λ i. one (f i))
-mask-ones f word h m = ones-are 64 word h ∙ sum-same 64 _ _ (λ i l. ap one (m i l))
