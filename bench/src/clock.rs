@@ -1,7 +1,8 @@
 //! Times that are only ever divided by one another. What is compared runs in turn, round after round, and of the times
 //! of one task the middle one counts. It is the processor's time of this thread, so that what else the machine does
 //! counts for little.
-use std::hint::black_box;
+use std::mem::ManuallyDrop;
+use std::ptr::read_volatile;
 
 #[repr(C)]
 struct Timespec {
@@ -31,10 +32,18 @@ pub fn time(task: impl FnOnce()) -> f64 {
     now() - begun
 }
 
+/// A value as it is, of which the compiler knows nothing any more. The standard library's `black_box` is younger than the
+/// compiler that the tests make do with.
+fn veiled<T>(value: T) -> T {
+    let value = ManuallyDrop::new(value);
+    // The value is read once, and never used or dropped where it was.
+    ManuallyDrop::into_inner(unsafe { read_volatile(&value) })
+}
+
 /// Does a thing for each entry of a list. The compiler may not leave it out.
 pub fn each<A: Copy, T>(list: &[A], mut task: impl FnMut(A) -> T) {
     for &entry in list {
-        black_box(task(black_box(entry)));
+        veiled(task(veiled(entry)));
     }
 }
 

@@ -24,6 +24,9 @@ mod oracle {
 }
 
 fn main() {
+    if std::env::var_os("AZEBIMORU_EMULATED").is_some() {
+        println!("All of it runs in an emulator: the ratios are those of emulated code, and no aim is judged by them.\n");
+    }
     plans::report();
     queries::report();
 }
