@@ -1,10 +1,9 @@
 -- What the rows of a field show, row by row: the laws behind a sweep, on any board. Assumes nothing.
 use Prim.Native.Nat.{ℕ, zero, suc, _+_, _-_, min, _≤_, _<_}
 use mathlib.Core.Bool.{true, false}
-use mathlib.Core.Logic.{_↔_, _⊎_, inl, inr, ⊎-elim}
+use mathlib.Core.Logic.{_↔_, _⊎_, inl, ⊎-elim}
 use mathlib.Core.Path.{_≡_, sym, _∙_, ap, subst}
 use native.Mathlib.Omega.{arith}
-use native.Mathlib.Decide.{decLe}
 use lib.ListN.{replicate}
 use Rattle.lengths.specs.Laws.{le-or-lt}
 use Rattle.floor.specs.Board.{Board, Place, Free, Dir, step, corner}
@@ -88,13 +87,13 @@ module _ (B : Board) (s : Place) (d c : Dir) where
     pub not-behind : (m k : ℕ) → n ≤ m → n < m + k → ¬ (Rows B s d c m k)
     not-behind m k p q r = not-both turn (subst Plain (on-row n 0) (r .plain n 0 p (omega arith) (omega arith) (omega arith)))
 
-    -- the row shows nothing else
+    -- the row shows nothing some steps on
+    pub first-way : (t : Place) (h : Shows B s d c n t) → h .k ≡ 0
+    first-way t h = ⊎-elim (λ (l : 1 ≤ h .k). absurd (not-behind n (h .k) (omega arith) (omega arith) (h .rows))) (λ l. omega arith) (le-or-lt 1 (h .k))
+
+    -- so nothing else
     pub only-first : (t : Place) → Shows B s d c n t → t ≡ ahead d n s
-    only-first t h = by (h .k) (h .there) (h .rows)
-      where
-        by : (k : ℕ) → t ≡ cell s d c n k → Rows B s d c n k → t ≡ ahead d n s
-        by zero e r = e ∙ on-row n 0
-        by (suc k) e r = absurd (not-behind n (suc k) (omega arith) (omega arith) r)
+    only-first t h = h .there ∙ ap (cell s d c n) (first-way t h) ∙ on-row n 0
 
   -- ---- a row that begins at no turning point, or is the first
   module _ (n reach m : ℕ) (come : Come B s d c n reach) (begins : 0 < n → Plain (ahead d n s)) (clear : Clearance B c (ahead d n s) m)
@@ -127,28 +126,43 @@ module _ (B : Board) (s : Place) (d c : Dir) where
     pub shows-end : 0 < m → m ≤ reach → corner B (ahead c m (ahead d n s)) ≡ true → Shows B s d c n (ahead c m (ahead d n s))
     shows-end z l t = record { k = m; there = sym (on-row n m); some-way = omega arith; rows = rows-to z l; turns = t }
 
-    -- and nothing else is
-    pub only-end : (t : Place) → Shows B s d c n t → AtEnd c (ahead d n s) reach m t
-    only-end t h = by (h .k) (h .there) (h .rows) (h .some-way)
-      where
-        by : (k : ℕ) → t ≡ cell s d c n k → Rows B s d c n k → 0 < n + k → AtEnd c (ahead d n s) reach m t
-        by zero e r a = not-both (h .turns) (subst Plain (sym (e ∙ on-row n 0)) (begins (omega arith)))
-        by (suc k) e r a =
-            let at-end = e ∙ on-row n (suc k) in
-            let same : suc k ≡ m = clearance-unique B c (ahead d n s) (suc k) m
-            (record {
-              free = λ j p. subst (Free B) (on-row n j) (r .free n j (omega arith) p);
-              plain = λ j p q. subst Plain (on-row n j) (r .plain n j (omega arith) (omega arith) (omega arith) (omega arith));
-              stops = inl (omega arith, subst (λ q. corner B q ≡ true) at-end (h .turns));
-            }) clear in
-            let within : suc k ≤ reach = come .opened (suc k) (omega arith) (omega arith) .1 (λ i g.
-            record {
-              free = λ j p. subst (Free B) (on-row i j) (r .free i j (omega arith) p);
-              plain = λ j p q. subst Plain (on-row i j) (r .plain i j (omega arith) q (omega arith) (omega arith));
-            }) in
-            record { some = omega arith; reached = omega arith; there = at-end ∙ ap (λ v. ahead c v (ahead d n s)) same }
+    -- and nothing at the beginning
+    pub end-way : (t : Place) (h : Shows B s d c n t) → 0 < h .k
+    end-way t h =
+        let some = h .some-way in
+        ⊎-elim (λ l. l)
+        (λ (l : h .k < 1). let none : h .k ≡ 0 = omega arith in
+        not-both (h .turns) (subst Plain (sym (h .there ∙ ap (cell s d c n) none ∙ on-row n 0)) (begins (omega arith))))
+        (le-or-lt 1 (h .k))
 
-  -- ---- on to the next row
+    -- so nothing else is
+    pub only-end : (t : Place) → Shows B s d c n t → AtEnd c (ahead d n s) reach m t
+    only-end t h =
+        let some = end-way t h in
+        let at-end = h .there ∙ on-row n (h .k) in
+        let same : h .k ≡ m = clearance-unique B c (ahead d n s) (h .k) m
+        (record {
+          free = λ j p. subst (Free B) (on-row n j) (h .rows .free n j (omega arith) p);
+          plain = λ j p q. subst Plain (on-row n j) (h .rows .plain n j (omega arith) (omega arith) (omega arith) (omega arith));
+          stops = inl (some, subst (λ q. corner B q ≡ true) at-end (h .turns));
+        }) clear in
+        let within : h .k ≤ reach = come .opened (h .k) some (omega arith) .1 (λ i g.
+        record {
+          free = λ j p. subst (Free B) (on-row i j) (h .rows .free i j (omega arith) p);
+          plain = λ j p q. subst Plain (on-row i j) (h .rows .plain i j (omega arith) q (omega arith) (omega arith));
+        }) in
+        record { some = omega arith; reached = omega arith; there = at-end ∙ ap (λ v. ahead c v (ahead d n s)) same }
+
+  -- ---- from row to row
+  -- from a free place the sweep has come to the first row, where all steps that a floor can have are open
+  pub come-begin : Free B s → Come B s d c 0 255
+  come-begin free =
+      record {
+        ray = free;
+        plain = λ i p q. absurd (omega arith);
+        opened = λ k a b. (λ l i q. absurd (omega arith), λ o. omega arith);
+      }
+
   -- past a plain beginning and by a legal step the sweep comes to the next row
   pub come-more : (n reach r : ℕ) → Come B s d c n reach → (0 < n → Plain (ahead d n s)) → step B d (ahead d n s) ≡ true →
       Opened B s d c (suc n) r → Come B s d c (suc n) r

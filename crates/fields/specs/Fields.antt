@@ -3,13 +3,13 @@
 use Prim.Native.Nat.{ℕ, suc, _+_, _*_, _/_, _%_, _≤_, _<_}
 use mathlib.Core.Bool.{Bool, true, false, cond, not, _&&_}
 use mathlib.Core.List.{List}
-use mathlib.Core.Logic.{_↔_}
+use mathlib.Core.Logic.{_↔_, _⊎_}
 use mathlib.Core.Path.{_≡_}
 use lib.Dec.{ltb}
-use lib.ListN.{length, replicate}
+use lib.ListN.{length, getD, replicate}
 use Rattle.lengths.specs.Lengths.{gap}
 use Rattle.floor.specs.Board.{Board, Place, at, Free, Dir, dirAt, go, step, corner}
-use Rattle.floor.specs.Words.{board, placeOf, Floor, cellOf}
+use Rattle.floor.specs.Words.{board, numberOf, placeOf, Floor, cellOf}
 use Rattle.ground.specs.Kind.{walkers}
 use Rattle.ground.specs.Walk.{Legal}
 use Rattle.ground.specs.Rows.{cell, Rows}
@@ -60,7 +60,34 @@ pub record Shows (B : Board) (s : Place) (d c : Dir) (n : ℕ) (t : Place) : Typ
 abbrev pub ShowsIn : ℕ → ℕ → List ℕ → ℕ → ℕ → ℕ → ℕ → Place → Type 0
 ShowsIn w h words sx sy f n t = Shows (board w h words) (at sx sy) (dirAt (slant f)) (dirAt (side f)) n t
 
--- where a sweep that goes on stands: at the beginning of its row
+-- what lies on a field's edge, in its first row or at a row's beginning, is the even fields' own
+abbrev pub Own : ℕ → ℕ → ℕ → Type 0
+Own f n k = (f % 2 ≡ 0) ⊎ ((0 < n) × (0 < k))
+
+-- row n of field f from cell (sx, sy) shows t, and t is the field's own
+pub record OwnIn (w h : ℕ) (words : List ℕ) (sx sy f n : ℕ) (t : Place) : Type 0 where
+  pub shows : ShowsIn w h words sx sy f n t
+  pub own : Own f n (shows .k)
+
+-- ---- passing a row
+-- what passing row n takes: a floor, its clearances, and a sweep that has come to the row
+pub record Coming (w h : ℕ) (words clear : List ℕ) (sx sy f n reach : ℕ) : Type 0 where
+  pub floor : Floor w h words
+  pub long : 4 * (w * h) ≤ length clear
+  pub cleared : Cleared w h words clear
+  pub field-in : f < 8
+  pub few-rows : n < 255
+  pub come : Come (board w h words) (at sx sy) (dirAt (slant f)) (dirAt (side f)) n reach
+
+-- row n was passed: what it shows of its own was said, and the sweep has come to the next row, or no later row shows anything
+pub record PassedRow (w h : ℕ) (words : List ℕ) (sx sy f n : ℕ) (r : RowEnd) : Type 0 where
+  pub said : (t : ℕ) → r .shown ≡ suc t → (t < w * h) × OwnIn w h words sx sy f n (placeOf w t)
+  pub unsaid : (t : Place) → OwnIn w h words sx sy f n t → r .shown ≡ suc (cellOf w t)
+  pub goes-on : r .reach < 256 → (suc n < 255) × Come (board w h words) (at sx sy) (dirAt (slant f)) (dirAt (side f)) (suc n) (r .reach)
+  pub ends : 256 ≤ r .reach → (m : ℕ) (t : Place) → n < m → ¬ (ShowsIn w h words sx sy f m t)
+
+-- ---- a sweep inside a row
+-- where a sweep stands: at the beginning of its row
 pub record Standing (w h : ℕ) (words : List ℕ) (s : Sweep) : Type 0 where
   pub field-in : s .field < 8
   pub column-in : s .x < w
@@ -69,20 +96,20 @@ pub record Standing (w h : ℕ) (words : List ℕ) (s : Sweep) : Type 0 where
   pub there : at (s .x) (s .y) ≡ ahead (dirAt (slant (s .field))) (s .row) (at (s .sx) (s .sy))
   pub come : Come (board w h words) (at (s .sx) (s .sy)) (dirAt (slant (s .field))) (dirAt (side (s .field))) (s .row) (s .reach)
 
--- a sweep before its first row
-abbrev pub begun : ℕ → ℕ → ℕ → Sweep
-begun sx sy f = record { sx = sx; sy = sy; field = f; row = 0; x = sx; y = sy; reach = 255; shown = 0; on = true }
-
--- a sweep that ended with its row
-abbrev pub ended : Sweep → ℕ → Sweep
-ended s shown = record { sx = s .sx; sy = s .sy; field = s .field; row = s .row + 1; x = s .x; y = s .y; reach = s .reach; shown = shown; on = false }
-
--- what passing a row takes: a floor, its clearances, and a sweep that stands
+-- what reading a row takes: a floor, its clearances, and a sweep that stands
 pub record NewRow (w h : ℕ) (words clear : List ℕ) (s : Sweep) : Type 0 where
   pub floor : Floor w h words
   pub long : 4 * (w * h) ≤ length clear
   pub cleared : Cleared w h words clear
   pub standing : Standing w h words s
+
+-- the row begins at no turning point, or is the first
+abbrev pub Plainly : ℕ → ℕ → List ℕ → Sweep → Type 0
+Plainly w h words s = 0 < s .row → corner (board w h words) (at (s .x) (s .y)) ≡ false
+
+-- the entry of the clearances that tells how far the row leads
+abbrev pub rowClearance : ℕ → List ℕ → Sweep → ℕ
+rowClearance w clear s = getD clear (4 * numberOf w (s .x) (s .y) + side (s .field)) 0
 
 -- ---- what is asked of clearances
 -- a floor, and its clearances
@@ -133,30 +160,24 @@ pub record RowRead (w h : ℕ) (words : List ℕ) (s : Sweep) (r : RowEnd) : Typ
   pub said : Said w h words s (r .shown)
   pub unsaid : AllSaid w h words s (r .shown)
   pub opened : Opened (board w h words) (at (s .sx) (s .sy)) (dirAt (slant (s .field))) (dirAt (side (s .field))) (suc (s .row)) (r .reach)
+  pub few : r .reach < 256
 
--- a sweep passed one row: what that row shows was said, and the sweep goes on to the next row, or no later row shows anything
-pub record PassedRow (w h : ℕ) (words : List ℕ) (s r : Sweep) : Type 0 where
-  pub same-column : r .sx ≡ s .sx
-  pub same-row : r .sy ≡ s .sy
-  pub same-field : r .field ≡ s .field
-  pub next-row : r .row ≡ suc (s .row)
-  pub said : Said w h words s (r .shown)
-  pub unsaid : AllSaid w h words s (r .shown)
-  pub goes-on : r .on ≡ true → Standing w h words r
-  pub ends : r .on ≡ false → (n : ℕ) (t : Place) → s .row < n → ¬ (ShowsIn w h words (s .sx) (s .sy) (s .field) n t)
+-- a number is kept where a condition holds, and else is 0
+abbrev pub KeptIf : Type 0 → ℕ → ℕ → Type 0
+KeptIf A shown r = (A × (r ≡ shown)) ⊎ ((¬ A) × (r ≡ 0))
 
 -- the number of a field, by whether it goes east, south, and along the rows
 abbrev pub fieldBy : Bool → Bool → Bool → ℕ
 fieldBy east south wide = cond east (cond south (cond wide 2 3) (cond wide 1 0)) (cond south (cond wide 5 4) (cond wide 6 7))
 
--- the one field in which t can be shown from s
+-- a field in which t can be shown from s: the only one, unless t lies on the edge of two
 unfoldable pub fieldTo : Place → Place → ℕ
 fieldTo s t = fieldBy (ltb (s .x) (t .x)) (ltb (s .y) (t .y)) (ltb (gap (s .y) (t .y)) (gap (s .x) (t .x)))
 
 module _ (w h : ℕ) (words : List ℕ) (s : ℕ) where
-  -- row n of field f from cell s shows cell t
+  -- row n of field f from cell s shows cell t, and t is the field's own
   abbrev pub ShownIn : ℕ → ℕ → ℕ → Type 0
-  ShownIn f n t = (t < w * h) × ShowsIn w h words (s % w) (s / w) f n (placeOf w t)
+  ShownIn f n t = (t < w * h) × OwnIn w h words (s % w) (s / w) f n (placeOf w t)
 
   -- some row of some field from cell s shows cell t
   pub record Seen (t : ℕ) : Type 0 where

@@ -1,54 +1,40 @@
 // The sweep of the fields round a place: which turning points it is linked to.
 ghost use mathlib.Core.Bool.{false, _&&_};
 ghost use mathlib.Core.Path.{_≡_};
-ghost use Prim.Native.Nat.{suc, _+_, _-_, _*_, _<_, _≤_};
+ghost use mathlib.Core.Logic.{_⊎_};
+ghost use Prim.Native.Nat.{suc, _+_, _-_, _*_, _%_, _<_, _≤_};
 ghost use lib.Dec.{ltb};
 ghost use Rattle.floor.specs.Board.{at, Free, corner, dirAt};
 ghost use Rattle.floor.specs.Words.{board, numberOf};
+ghost use Rattle.floor.specs.Refusals.{Tells};
 ghost use Rattle.ground.specs.Clearance.{ahead};
-ghost use Rattle.fields.specs.Fields.{begun, ended, NewRow, Known, OnSome, StepTold, NextTo, Ends, opensOut, RowRead, PassedRow};
+ghost use Rattle.fields.specs.Fields.{side, ShowsIn, NewRow, Plainly, Known, OnSome, StepTold, NextTo, Ends, opensOut, rowClearance, KeptIf, RowRead, Coming, PassedRow};
 
-// The sweep of one field from cell (sx, sy): row `row` begins at cell (x, y), `reach` steps are open in all rows before it, `shown` is one
-// more than the cell of the turning point that the row just passed shows, or 0, and `on` says whether there is a row to pass.
-pub struct Sweep {
-    pub sx: usize,
-    pub sy: usize,
-    pub field: usize,
-    pub row: usize,
-    pub x: usize,
-    pub y: usize,
-    pub reach: usize,
+// More steps than a row can have.
+pub const ENDED: usize = 256;
+
+// What passing a row tells: one more than the cell of the turning point that the row shows, or 0; and how many steps are open in it and
+// all rows before, or ENDED where no row follows.
+pub struct RowEnd {
     pub shown: usize,
-    pub on: bool,
+    pub reach: usize,
+}
+
+// The sweep of a field from cell (sx, sy): row `row` begins at cell (x, y), and `reach` steps are open in all rows before it.
+struct Sweep {
+    sx: usize,
+    sy: usize,
+    field: usize,
+    row: usize,
+    x: usize,
+    y: usize,
+    reach: usize,
 }
 
 // A cell by column and row.
 struct Spot {
     x: usize,
     y: usize,
-}
-
-// What a row tells: one more than the cell of the turning point that it shows, or 0; and how many steps are open in it and all rows before.
-struct RowEnd {
-    shown: usize,
-    reach: usize,
-}
-
-// The sweep of a field from cell (sx, sy), before its first row.
-pub fn begin(sx: usize, sy: usize, field: usize) -> Sweep
-    ensures { λ r. ⌜ r ≡ begun sx sy field ⌝ }
-{
-    Sweep {
-        sx: sx,
-        sy: sy,
-        field: field,
-        row: 0,
-        x: sx,
-        y: sy,
-        reach: 255,
-        shown: 0,
-        on: true,
-    }
 }
 
 // A column or row k steps further by an offset that is 0, 1 or 2, for -1, 0 and 1.
@@ -180,10 +166,31 @@ fn slants(clear: &[u8], w: usize, x: usize, y: usize, field: usize) -> bool
     0 < marks::clearance(clear, w, x, y + along - 1, across)
 }
 
-// What a row tells that begins at no turning point, or is the first. Only where the clearance of its beginning ends can it show one, and
-// only within the reach; a clearance beyond the reach leaves that as it is.
+// Whether the cell m steps on in the row, where the row's clearance ends, is a turning point linked to the cell that the sweep goes out
+// from. It is not where it lies beyond the reach, or where the row does not lead on.
+fn linked(words: &[u64], w: usize, h: usize, clear: &[u8], s: Sweep, m: usize) -> bool
+    requires { ⌜ NewRow w h (now words) (now clear) s × (Plainly w h (now words) s × (m ≡ rowClearance w (now clear) s)) ⌝ }
+    ensures { λ r. ⌜ Tells (ShowsIn w h (now (words .entry)) (s .sx) (s .sy) (s .field) (s .row) (ahead (dirAt (side (s .field))) m (at (s .x) (s .y)))) r ⌝ }
+{
+    let x = s.x;
+    let y = s.y;
+    let reach = s.reach;
+    let dir = (s.field / 2 + s.field % 2) % 4;
+    if reach < m {
+        return false;
+    }
+    if m == 0 {
+        return false;
+    }
+    let e = ahead_of(x, y, dir, m);
+    let q = ahead_of(x, y, dir, m - 1);
+    ends_on_corner(words, w, h, clear, q.x, q.y, e.x, e.y, dir)
+}
+
+// What a row tells that begins at no turning point, or is the first. Only where the clearance of its beginning ends can it show one; a
+// clearance beyond the reach leaves that as it is.
 fn row_end(words: &[u64], w: usize, h: usize, clear: &[u8], s: Sweep) -> RowEnd
-    requires { ⌜ NewRow w h (now words) (now clear) s × (0 < s .row → corner (board w h (now words)) (at (s .x) (s .y)) ≡ false) ⌝ }
+    requires { ⌜ NewRow w h (now words) (now clear) s × Plainly w h (now words) s ⌝ }
     ensures { λ r. ⌜ RowRead w h (now (words .entry)) s r ⌝ }
 {
     let x = s.x;
@@ -191,75 +198,72 @@ fn row_end(words: &[u64], w: usize, h: usize, clear: &[u8], s: Sweep) -> RowEnd
     let reach = s.reach;
     let dir = (s.field / 2 + s.field % 2) % 4;
     let m = marks::clearance(clear, w, x, y, dir);
-    if m <= reach {
-        if 0 < m {
-            let e = ahead_of(x, y, dir, m);
-            let ex = e.x;
-            let ey = e.y;
-            let q = ahead_of(x, y, dir, m - 1);
-            let qx = q.x;
-            let qy = q.y;
-            if ends_on_corner(words, w, h, clear, qx, qy, ex, ey, dir) {
-                RowEnd {
-                    shown: named(w, ex, ey),
-                    reach: m - 1,
-                }
-            } else {
-                RowEnd { shown: 0, reach: m }
-            }
-        } else {
-            RowEnd { shown: 0, reach: 0 }
-        }
-    } else {
-        RowEnd {
-            shown: 0,
-            reach: reach,
-        }
-    }
-}
-
-// A sweep that ends with a row: what the row shows, and no next one.
-fn stop(s: Sweep, shown: usize) -> Sweep
-    requires { ⌜ s .row < 255 ⌝ }
-    ensures { λ r. ⌜ r ≡ ended s shown ⌝ }
-{
-    Sweep {
-        sx: s.sx,
-        sy: s.sy,
-        field: s.field,
-        row: s.row + 1,
-        x: s.x,
-        y: s.y,
-        reach: s.reach,
-        shown: shown,
-        on: false,
-    }
-}
-
-// The sweep passes its row, and goes on to the next if there is one. Clearances tell it all: the words are there for the promise.
-pub fn pass_row(words: &[u64], w: usize, h: usize, clear: &[u8], s: Sweep) -> Sweep
-    requires { ⌜ NewRow w h (now words) (now clear) s ⌝ }
-    ensures { λ r. ⌜ PassedRow w h (now (words .entry)) s r ⌝ }
-{
-    let x = s.x;
-    let y = s.y;
-    if turns(words, w, h, clear, s) {
-        return stop(s, named(w, x, y));
-    }
-    let e = row_end(words, w, h, clear, s);
-    if slants(clear, w, x, y, s.field) {
-        let p = ahead_of(x, y, 4 + s.field / 2, 1);
-        return Sweep {
-            sx: s.sx,
-            sy: s.sy,
-            field: s.field,
-            row: s.row + 1,
-            x: p.x,
-            y: p.y,
-            reach: e.reach,
-            shown: e.shown,
-            on: true,
+    if linked(words, w, h, clear, s, m) {
+        let e = ahead_of(x, y, dir, m);
+        let open = m - 1;
+        return RowEnd {
+            shown: named(w, e.x, e.y),
+            reach: open,
         };
     }
-    stop(s, e.shown)
+    RowEnd {
+        shown: 0,
+        reach: if m < reach { m } else { reach },
+    }
+}
+
+// What lies on a field's edge is shown by the even fields only, since each edge belongs to an even field and an odd one.
+fn edge(field: usize, shown: usize) -> usize
+    ensures { λ r. ⌜ KeptIf (field % 2 ≡ 0) shown r ⌝ }
+{
+    if field % 2 == 0 { shown } else { 0 }
+}
+
+// What a row shows some steps on: in the first row it lies on the field's edge.
+fn beyond(field: usize, row: usize, shown: usize) -> usize
+    ensures { λ r. ⌜ KeptIf ((field % 2 ≡ 0) ⊎ (0 < row)) shown r ⌝ }
+{
+    if row == 0 { edge(field, shown) } else { shown }
+}
+
+// Passes row `row` of a field from cell (sx, sy): what it shows, and how far the next may reach if there is one. Clearances tell it all:
+// the words are there for the promise.
+pub fn pass_row(
+    words: &[u64],
+    w: usize,
+    h: usize,
+    clear: &[u8],
+    sx: usize,
+    sy: usize,
+    field: usize,
+    row: usize,
+    reach: usize,
+) -> RowEnd
+    requires { ⌜ Coming w h (now words) (now clear) sx sy field row reach ⌝ }
+    ensures { λ r. ⌜ PassedRow w h (now (words .entry)) sx sy field row r ⌝ }
+{
+    let p = ahead_of(sx, sy, 4 + field / 2, row);
+    let x = p.x;
+    let y = p.y;
+    let s = Sweep {
+        sx: sx,
+        sy: sy,
+        field: field,
+        row: row,
+        x: x,
+        y: y,
+        reach: reach,
+    };
+    if turns(words, w, h, clear, s) {
+        return RowEnd {
+            shown: edge(field, named(w, x, y)),
+            reach: ENDED,
+        };
+    }
+    let e = row_end(words, w, h, clear, s);
+    let on = slants(clear, w, x, y, field);
+    RowEnd {
+        shown: beyond(field, row, e.shown),
+        reach: if on { e.reach } else { ENDED },
+    }
 }

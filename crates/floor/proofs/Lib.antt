@@ -8,5 +8,3 @@ pub mod Sums
 pub mod Ones
 pub mod FreeCells
 pub mod Windows
-pub mod Bits
-pub mod CellMasks

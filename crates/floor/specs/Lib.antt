@@ -3,4 +3,3 @@ pub mod Board
 pub mod Window
 pub mod Refusals
 pub mod Words
-pub mod Masks

@@ -7,12 +7,6 @@ ghost use Rattle.floor.specs.Window.{cells, triple, windowOf, InWindow};
 ghost use Rattle.floor.specs.Refusals.{FirstOf, Tells};
 ghost use Rattle.floor.specs.Words.{bitClear, bitFree, OneWord, freeIn, board, rowWords, Sized, IsRow, SizeRefused, RestClear, UnusedClear, floorRows, clearBits};
 
-mod masks;
-
-pub use masks::corner_mask;
-pub use masks::step_mask;
-pub use masks::turn_mask;
-
 // The eight directions N, E, S, W, NE, SE, SW, NW, each as its offsets of column and row. North is smaller y.
 pub const DIRECTIONS: [[i32; 2]; 8] = [
     [0, -1],

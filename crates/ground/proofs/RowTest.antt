@@ -142,7 +142,7 @@ pub record Sides (d c : Dir) (n k : ℕ) : Type 0 where
   pub tame : Tame Near (replicate n d ++ replicate k c)
 
 -- the field's two directions are the direct line's, so far as they are used
-field-ways : (way : Bool → Dir) (d c : Dir) (n k : ℕ) → Sides d c n k → Over way (replicate n d ++ replicate k c) →
+pub field-ways : (way : Bool → Dir) (d c : Dir) (n k : ℕ) → Sides d c n k → Over way (replicate n d ++ replicate k c) →
     (0 < n → way true ≡ d) × (0 < k → way false ≡ c)
 field-ways way d c n k sides o = (
   λ h. sym (over-replicate way n d h (over-part way (replicate n d) (replicate k c) o) ∙ ap way (sides .diagonal h)),

@@ -10,7 +10,7 @@ use borrow.Author.Tests.{lt-ltb, le-ltb}
 use lib.Dec.{ltb}
 use Rattle.floor.specs.Board.{Board, Place, corner}
 use Rattle.floor.specs.Words.{board, numberOf, placeOf}
-use Rattle.floor.specs.Masks.{bitSet, Mask, spot}
+use Rattle.masks.specs.Masks.{bitSet, Mask, spot}
 use Rattle.floor.proofs.Tables.{not-so}
 use Rattle.ground.proofs.Walks.{place-eq}
 use Rattle.marks.specs.Marks.{cornerCell}

@@ -10,8 +10,8 @@ use lib.Count.{ones, under, trailingZeros}
 use lib.Pow.{pow-add}
 use borrow.Author.Tests.{lt-ltb, le-ltb}
 use Rattle.floor.specs.Words.{sumBelow, one}
-use Rattle.floor.specs.Masks.{bitSet, Mask}
-use Rattle.floor.proofs.Bits.{half-bit, ones-are}
+use Rattle.masks.specs.Masks.{bitSet, Mask}
+use Rattle.masks.proofs.Bits.{half-bit, ones-are}
 use Rattle.floor.proofs.Sums.{sum-same, sum-none, sum-add}
 use Rattle.ground.proofs.Logic.{true-or-false}
 use Rattle.marks.specs.Lists.{select}

@@ -11,7 +11,7 @@ use lib.ListN.{length, getD, set, length-set}
 use lib.Seq.{getD-set-same, getD-set-other}
 use Rattle.floor.specs.Board.{Free, dirAt, go}
 use Rattle.floor.specs.Words.{board, placeOf, Floor}
-use Rattle.floor.specs.Masks.{bitSet}
+use Rattle.masks.specs.Masks.{bitSet}
 use Rattle.floor.proofs.Below.{below}
 use Rattle.ground.proofs.Logic.{and-right}
 use Rattle.ground.proofs.Cells.{column-inside, row-inside}

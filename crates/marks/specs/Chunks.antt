@@ -3,7 +3,7 @@ use Prim.Native.Nat.{ℕ, _+_, _-_, _*_, _%_, _≤_, _<_}
 use mathlib.Core.Bool.{Bool, true, false, _&&_}
 use mathlib.Core.Path.{_≡_}
 use lib.Dec.{ltb}
-use Rattle.floor.specs.Masks.{bitSet}
+use Rattle.masks.specs.Masks.{bitSet}
 
 -- the n cells from cell c on are the first of a mask, and stand in one row
 pub record Chunk (w h c n : ℕ) : Type 0 where

@@ -1,11 +1,11 @@
-// Clearances and turning points: written, and recognised. A row is taken 64 cells at a time, a chunk, by the floor's masks.
+// Clearances and turning points: written, and recognised. A row is taken 64 cells at a time, a chunk, by masks.
 ghost use mathlib.Core.Path.{_≡_};
 ghost use Prim.Native.Nat.{_+_, _-_, _*_, _%_, _<_, _≤_};
 ghost use mathlib.Core.Bool.{true, cond, _&&_};
 ghost use lib.Dec.{eqb, ltb};
 ghost use lib.ListN.{length, getD, set};
 ghost use Rattle.floor.specs.Refusals.{Tells};
-ghost use Rattle.floor.specs.Masks.{bitSet, Mask};
+ghost use Rattle.masks.specs.Masks.{bitSet, Mask};
 ghost use Rattle.floor.specs.Words.{board, placeOf, numberOf, Floor, cellOf};
 ghost use Rattle.marks.specs.Lists.{written};
 ghost use Rattle.marks.specs.Listing.{Written, Read, Told};
@@ -63,7 +63,7 @@ fn corner_bits(words: &[u64], w: usize, h: usize, cell: usize) -> u64
     requires { ⌜ Floor w h (now words) × ((cell < w * h) × (cell % w % 64 ≡ 0)) ⌝ }
     ensures { λ r. ⌜ Mask (inRow w (cornerCell w h (now (words .entry))) cell) r ⌝ }
 {
-    floor::corner_mask(words, w, h, cell / w + 1, cell % w / 64)
+    masks::corner_mask(words, w, h, cell / w + 1, cell % w / 64)
 }
 
 // The cells of a chunk from which a step in direction dir is legal.
@@ -71,7 +71,7 @@ fn step_bits(words: &[u64], w: usize, h: usize, cell: usize, dir: usize) -> u64
     requires { ⌜ Floor w h (now words) × ((cell < w * h) × ((cell % w % 64 ≡ 0) × (dir < 4))) ⌝ }
     ensures { λ r. ⌜ RowBits w (λ c. stepsTo (board w h (now (words .entry))) (placeOf w c) dir) cell r ⌝ }
 {
-    floor::step_mask(words, w, h, cell / w + 1, cell % w / 64, dir)
+    masks::step_mask(words, w, h, cell / w + 1, cell % w / 64, dir)
 }
 
 // The cells of a chunk from which a step in direction dir leads to a turning point.
@@ -79,7 +79,7 @@ fn turn_bits(words: &[u64], w: usize, h: usize, cell: usize, dir: usize) -> u64
     requires { ⌜ Floor w h (now words) × ((cell < w * h) × ((cell % w % 64 ≡ 0) × (dir < 4))) ⌝ }
     ensures { λ r. ⌜ RowBits w (λ c. turnsTo (board w h (now (words .entry))) (placeOf w c) dir) cell r ⌝ }
 {
-    floor::turn_mask(words, w, h, cell / w + 1, cell % w / 64, dir)
+    masks::turn_mask(words, w, h, cell / w + 1, cell % w / 64, dir)
 }
 
 // How many cells are turning points.

@@ -1,35 +1,66 @@
 -- What the parts of a plan's recognition tell together: a turning point's neighbours, and the starts. Assumes nothing.
-use Prim.Native.Nat.{ℕ, suc, _+_, _-_, _*_, _≤_, _<_}
+use Prim.Native.Nat.{ℕ, _*_, _≤_, _<_}
 use mathlib.Core.Bool.{true}
 use mathlib.Core.List.{List}
-use mathlib.Core.Path.{_≡_, sym, _∙_, ap}
+use mathlib.Core.Logic.{inl, inr}
+use mathlib.Core.Path.{_≡_, sym, _∙_, ap, subst}
 use native.Mathlib.Omega.{arith}
 use lib.ListN.{length, getD}
-use lib.Seq.{ext-getD}
 use Rattle.floor.specs.Words.{board, placeOf, Floor}
 use Rattle.ground.specs.Kind.{walkers}
-use Rattle.marks.specs.Lists.{part, Picked}
+use Rattle.marks.specs.Lists.{Picked}
 use Rattle.marks.specs.Marks.{cornerCell, cornerCells, Cleared}
-use Rattle.fields.specs.Fields.{Sweepable}
+use Rattle.fields.specs.Fields.{Seen, Sweepable}
 use Rattle.plan.specs.Plan.{LinkedCells, LinksTo}
-use Rattle.plan.specs.Linking.{OneLinked}
-use Rattle.plan.specs.declared.Filled.the-variants.{To}
-use Rattle.plan.proofs.Pickings.{rising-picked, select-rising}
-use Rattle.plan.proofs.Insertions.{part-length, part-at}
+use Rattle.plan.specs.Rising.{In, Rising}
+use Rattle.plan.proofs.Risings.{rising-equal, rising-same}
+use Rattle.plan.proofs.Pickings.{picked-in, in-picked, picked-rising, rising-picked, select-rising}
 use Rattle.ground.proofs.Cells.{corner-free}
 use Rattle.plan.proofs.Seens.{seen-linked, linked-seen}
 use Rattle.plan.proofs.Linkings.{entry-turns}
 use Rattle.plan.proofs.Links.{up-to}
-use Rattle.matching.specs.Matching.{Started}
+use Rattle.matching.specs.Matching.{Started, Before, ShownBefore, Tallied, Unlisted}
 
 -- ---- a turning point's neighbours
-module _ (w h : ℕ) (words : List ℕ) (cell : ℕ) (turns : cornerCell w h words cell ≡ true) where
-  -- what is found anew is the turning point's neighbours
-  pub found-picked : (entry exit : List ℕ) (k : ℕ) → OneLinked w h words cell entry 0 (To k) exit →
-      Picked (LinkedCells walkers w h words cell) (cornerCells w h words) (part exit 0 k)
-  found-picked entry exit k o =
-      rising-picked (cornerCells w h words) (part exit 0 k) (select-rising (cornerCell w h words) (w * h)) (o .1 .rising)
-      (λ t p. seen-linked w h words cell turns t (o .1 .seen t p)) (λ t p q. o .2 t (linked-seen w h words cell turns t p q))
+module _ (w h : ℕ) (words : List ℕ) (cell : ℕ) (turns : cornerCell w h words cell ≡ true) (listed : List ℕ) where
+  -- what is listed is the turning point's neighbours
+  abbrev Right : Type 0
+  Right = Picked (LinkedCells walkers w h words cell) (cornerCells w h words) listed
+
+  -- it is not where one that is seen is missing
+  pub unlisted-wrong : Unlisted w h words cell listed → ¬ Right
+  unlisted-wrong u right = let l = seen-linked w h words cell turns (u .t) (u .seen) in u .missing (in-picked right (u .t) (l .0) (l .1))
+
+  -- nor where it does not ascend
+  pub right-rising : Right → Rising listed
+  right-rising right = picked-rising right (select-rising (cornerCell w h words) (w * h))
+
+  module _ (rising : Rising listed) {count : ℕ} (a : Tallied w h words cell listed 8 0 count) where
+    -- all that is linked was found
+    linked-found : (t : ℕ) → In t (cornerCells w h words) → LinkedCells walkers w h words cell t → In t (a .found)
+    linked-found t p q = let s = linked-seen w h words cell turns t p q in a .all (s .field) (s .row) t (s .field-in) (s .shown)
+
+    -- and the other way round
+    found-linked : (t : ℕ) → In t (a .found) → In t (cornerCells w h words) × LinkedCells walkers w h words cell t
+    found-linked t i = let z = a .shown t i in seen-linked w h words cell turns t (by z (z .before))
+      where
+        by : (z : ShownBefore w h words cell 8 0 t) → Before (z .field) (z .row) 8 0 → Seen w h words cell t
+        by z (inl l) = record { field = z .field; row = z .row; field-in = l; shown = z .shown }
+        by z (inr (e, l)) = absurd (omega arith)
+
+    -- what is listed is right if it is as many as were found
+    pub counted-right : length listed ≡ count → Right
+    counted-right e =
+        subst (Picked (LinkedCells walkers w h words cell) (cornerCells w h words))
+        (rising-equal (a .found) listed (a .rising) rising (a .known) (a .many ∙ sym e))
+        (rising-picked (cornerCells w h words) (a .found) (select-rising (cornerCell w h words) (w * h)) (a .rising) found-linked linked-found)
+
+    -- and only then
+    pub right-counted : Right → length listed ≡ count
+    right-counted right =
+        ap length
+        (rising-same listed (a .found) rising (a .rising) (λ t i. let l = picked-in right t i in linked-found t (l .0) (l .1)) (a .known))
+        ∙ a .many
 
 -- a listed turning point can be swept from
 pub corner-ready : (w h : ℕ) (words clear corners : List ℕ) → Floor w h words → (4 * (w * h) ≤ length clear) × Cleared w h words clear →
@@ -46,33 +77,6 @@ corner-ready w h words clear corners floor clears whole k l =
       },
       turns,
     )
-
--- ---- parts
-module _ (list found : List ℕ) (from to end : ℕ) (l : from ≤ to) (m : to ≤ length list) (n : end ≤ length found) where
-  -- how long the second part is
-  first-long : length (part found 0 end) ≡ end
-  first-long = let e : end - 0 ≡ end = omega arith in part-length found 0 end (omega arith) n ∙ e
-
-  -- parts of one length with the same entries are the same
-  pub parts-same : to - from ≡ end → ((i : ℕ) → i < end → getD list (from + i) 0 ≡ getD found i 0) → part list from to ≡ part found 0 end
-  parts-same e f =
-      ext-getD 0 _ _ (part-length list from to l m ∙ e ∙ sym first-long)
-      (λ i k.
-      let a : i < to - from = rw (part-length list from to l m) at k in
-      let g : 0 + i ≡ i = omega arith in
-      part-at list from to l m i a ∙ f i (omega arith) ∙ sym (part-at found 0 end (omega arith) n i (omega arith) ∙ ap (λ (j : ℕ). getD found j 0) g))
-
-  -- the same parts have one length
-  pub same-long : part list from to ≡ part found 0 end → to - from ≡ end
-  same-long e = sym (part-length list from to l m) ∙ ap length e ∙ first-long
-
-  -- and the same entries
-  pub same-at : part list from to ≡ part found 0 end → (i : ℕ) → i < end → getD list (from + i) 0 ≡ getD found i 0
-  same-at e i k =
-      let s = same-long e in
-      let g : 0 + i ≡ i = omega arith in
-      sym (part-at list from to l m i (omega arith)) ∙ ap (λ (xs : List ℕ). getD xs i 0) e ∙ part-at found 0 end (omega arith) n i (omega arith)
-      ∙ ap (λ (j : ℕ). getD found j 0) g
 
 -- ---- starts
 -- no start is beyond the neighbours

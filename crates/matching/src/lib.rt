@@ -1,7 +1,8 @@
-// The plan of a floor: recognised. The neighbours of each turning point are found anew, and compared with those that the list has.
+// The plan of a floor: recognised. The neighbours of each turning point are found anew, looked up among those that the list has, and counted:
+// each is shown once, so no memory is needed for them.
 ghost use mathlib.Core.Bool.{true};
 ghost use mathlib.Core.Path.{_≡_};
-ghost use Prim.Native.Nat.{_+_, _*_, _<_, _≤_};
+ghost use Prim.Native.Nat.{_*_, _<_, _≤_};
 ghost use lib.ListN.{length};
 ghost use Rattle.floor.specs.Refusals.{Tells};
 ghost use Rattle.floor.specs.Words.{Floor};
@@ -9,20 +10,27 @@ ghost use Rattle.ground.specs.Kind.{walkers};
 ghost use Rattle.marks.specs.Lists.{part, Picked};
 ghost use Rattle.marks.specs.Marks.{cornerCell, cornerCells, Cleared};
 ghost use Rattle.plan.specs.Plan.{LinkedCells, Links, Fits};
+ghost use Rattle.plan.specs.Rising.{Rising};
 ghost use Rattle.fields.specs.Fields.{Sweepable};
-ghost use Rattle.matching.specs.Matching.{Started, RowsMatch};
+ghost use Rattle.matching.specs.Matching.{Started, RowsMatch, TallyShown, Tallied, FieldTallied};
 
-// Whether the entries of a list from `from` up to `to` are the first `end` of another.
-fn same_part(list: &[u16], from: usize, to: usize, found: &[u16], end: usize) -> bool
-    requires { ⌜ (from ≤ to) × (to ≤ length (now list)) × (end ≤ length (now found)) ⌝ }
-    ensures { λ r. ⌜ Tells (part (now (list .entry)) from to ≡ part (now (found .entry)) 0 end) r ⌝ }
+// How many turning points were shown, all of them listed; or one is not listed.
+enum Tally {
+    Of(usize),
+    Missing,
+}
+
+// Whether the entries from `from` up to `to` ascend.
+fn rises(list: &[u16], from: usize, to: usize) -> bool
+    requires { ⌜ (from ≤ to) × (to ≤ length (now list)) ⌝ }
+    ensures { λ r. ⌜ Tells (Rising (part (now (list .entry)) from to)) r ⌝ }
 {
-    if to - from != end {
-        return false;
+    if from == to {
+        return true;
     }
-    let mut i = 0;
-    while i < end {
-        if list[from + i] == found[i] {
+    let mut i = from + 1;
+    while i < to {
+        if list[i - 1] < list[i] {
             i += 1;
         } else {
             return false;
@@ -31,7 +39,59 @@ fn same_part(list: &[u16], from: usize, to: usize, found: &[u16], end: usize) ->
     true
 }
 
-// Whether a part of the list has the neighbours of the turning point `cell`, ascending. They are found in a list that is lent for it.
+// Counts what a row shows, one more than a cell or 0 for nothing, if it is listed.
+fn tally_shown(list: &[u16], from: usize, to: usize, shown: usize, count: usize) -> Tally
+    requires part { ⌜ (from ≤ to) × ((to ≤ length (now list)) × Rising (part (now list) from to)) ⌝ }
+    requires small { ⌜ (shown ≤ 65536) × (count ≤ length (now list)) ⌝ }
+    ensures { λ r. ⌜ TallyShown (part (now (list .entry)) from to) shown count r ⌝ }
+{
+    if shown == 0 {
+        return Tally::Of(count);
+    }
+    if plan::listed(list, from, to, (shown - 1) as u16) {
+        Tally::Of(count + 1)
+    } else {
+        Tally::Missing
+    }
+}
+
+// Counts on, for the turning points that a field from `cell` shows.
+fn tally_field(
+    words: &[u64],
+    w: usize,
+    h: usize,
+    clear: &[u8],
+    list: &[u16],
+    from: usize,
+    to: usize,
+    cell: usize,
+    field: usize,
+    count: usize,
+) -> Tally
+    requires ready { ⌜ Sweepable w h (now words) cell (now clear) × (field < 8) ⌝ }
+    requires part { ⌜ (from ≤ to) × ((to ≤ length (now list)) × Rising (part (now list) from to)) ⌝ }
+    requires before { ⌜ Tallied w h (now words) cell (part (now list) from to) field 0 count ⌝ }
+    ensures { λ r. ⌜ FieldTallied w h (now (words .entry)) cell (part (now (list .entry)) from to) field r ⌝ }
+{
+    let sx = cell % w;
+    let sy = cell / w;
+    let mut sum = count;
+    let mut row = 0;
+    let mut reach = 255;
+    while reach < fields::ENDED {
+        let e = fields::pass_row(words, w, h, clear, sx, sy, field, row, reach);
+        let tallied = tally_shown(list, from, to, e.shown, sum);
+        let Tally::Of(k) = tallied else {
+            return Tally::Missing;
+        };
+        sum = k;
+        row += 1;
+        reach = e.reach;
+    }
+    Tally::Of(sum)
+}
+
+// Whether a part of the list has the neighbours of the turning point `cell`, ascending: each that is shown is listed, and no more are.
 fn row_matches(
     words: &[u64],
     w: usize,
@@ -41,18 +101,25 @@ fn row_matches(
     from: usize,
     to: usize,
     cell: usize,
-    found: &mut [u16],
 ) -> bool
     requires ready { ⌜ Sweepable w h (now words) cell (now clear) × (cornerCell w h (now words) cell ≡ true) ⌝ }
     requires part { ⌜ (from ≤ to) × (to ≤ length (now list)) ⌝ }
-    requires room { ⌜ (length (cornerCells w h (now words)) ≤ 2048) × (length (now found) ≡ 2048) ⌝ }
     ensures { λ r. ⌜ Tells (Picked (LinkedCells walkers w h (now (words .entry)) cell) (cornerCells w h (now (words .entry))) (part (now (list .entry)) from to)) r ⌝ }
 {
-    let linked = plan::link_one(words, w, h, clear, found, 0, cell);
-    let plan::Filled::To(end) = linked else {
+    if !rises(list, from, to) {
         return false;
-    };
-    same_part(list, from, to, found, end)
+    }
+    let mut count = 0;
+    let mut field = 0;
+    while field < 8 {
+        let tallied = tally_field(words, w, h, clear, list, from, to, cell, field, count);
+        let Tally::Of(k) = tallied else {
+            return false;
+        };
+        count = k;
+        field += 1;
+    }
+    count == to - from
 }
 
 // Whether the list begins at 0, has n + 1 entries none of which is below the one before it, and ends at m.
@@ -80,7 +147,7 @@ fn starts_match(starts: &[u16], n: usize, m: usize) -> bool
     true
 }
 
-// Whether the list has the neighbours of each turning point, where the starts say. They are found in a list that is lent for it.
+// Whether the list has the neighbours of each turning point, where the starts say.
 fn rows_match(
     words: &[u64],
     w: usize,
@@ -89,13 +156,11 @@ fn rows_match(
     corners: &[u16],
     starts: &[u16],
     list: &[u16],
-    found: &mut [u16],
 ) -> bool
     requires floor { ⌜ Floor w h (now words) ⌝ }
     requires clear { ⌜ (4 * (w * h) ≤ length (now clear)) × Cleared w h (now words) (now clear) ⌝ }
     requires corners { ⌜ (now corners ≡ cornerCells w h (now words)) × (length (now corners) ≤ 2048) ⌝ }
     requires starts { ⌜ Started (length (now corners)) (length (now list)) (now starts) ⌝ }
-    requires room { ⌜ length (now found) ≡ 2048 ⌝ }
     ensures { λ r. ⌜ Tells (RowsMatch w h (now (words .entry)) (now (corners .entry)) (now (starts .entry)) (now (list .entry))) r ⌝ }
 {
     let mut k = 0;
@@ -103,7 +168,7 @@ fn rows_match(
         let from = starts[k] as usize;
         let to = starts[k + 1] as usize;
         let cell = corners[k] as usize;
-        if row_matches(words, w, h, clear, list, from, to, cell, found) {
+        if row_matches(words, w, h, clear, list, from, to, cell) {
             k += 1;
         } else {
             return false;
@@ -128,8 +193,7 @@ fn links_match(
     ensures { λ r. ⌜ Tells (Links walkers w h (now (words .entry)) (now (corners .entry)) (now (starts .entry)) (now (list .entry))) r ⌝ }
 {
     if starts_match(starts, corners.len(), list.len()) {
-        let mut found: [u16; 2048] = [0; 2048];
-        rows_match(words, w, h, clear, corners, starts, list, &mut found)
+        rows_match(words, w, h, clear, corners, starts, list)
     } else {
         false
     }

@@ -1,5 +1,6 @@
 -- Laws that belong to no one function.
 pub mod Linked
+pub mod Onces
 pub mod Risings
 pub mod Pickings
 pub mod Links

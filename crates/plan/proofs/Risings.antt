@@ -1,11 +1,10 @@
 -- Strictly ascending lists are told by what stands in them. Assumes nothing.
-use Prim.Native.Nat.{ℕ, zero, suc, _+_, _≤_, _<_}
+use Prim.Native.Nat.{ℕ, zero, suc, _≤_, _<_}
 use mathlib.Core.Bool.{Bool, true, false, cond}
-use mathlib.Core.List.{List, [], _∷_, _++_}
+use mathlib.Core.List.{List, [], _∷_}
 use mathlib.Core.Logic.{_⊎_, inl, inr, ⊎-elim}
-use mathlib.Core.Path.{_≡_, refl, sym, _∙_, ap, ap₂, subst}
+use mathlib.Core.Path.{_≡_, refl, ap, ap₂}
 use native.Mathlib.Decide.{ℕ-discrete}
-use native.Mathlib.Nat.{le-trans, lt-trans, lt-irrefl}
 use native.Mathlib.Omega.{arith}
 use lib.Dec.{ltb, eqb}
 use lib.ListN.{length, getD}
@@ -40,6 +39,15 @@ rising-later [] r i j l m = absurd (omega arith)
 rising-later (x ∷ xs) r i zero l m = absurd (omega arith)
 rising-later (x ∷ xs) r zero (suc j) l m = above-in x (getD xs j 0) xs (r .0) (at-in xs j (omega arith))
 rising-later (x ∷ xs) r (suc i) (suc j) l m = rising-later xs (r .1) i j (omega arith) (omega arith)
+
+-- a list in which each entry is below the next ascends
+pub steps-rising : (xs : List ℕ) → ((i : ℕ) → suc i < length xs → getD xs i 0 < getD xs (suc i) 0) → Rising xs
+steps-rising [] f = tt
+steps-rising (x ∷ []) f = (tt, tt)
+steps-rising (x ∷ y ∷ ys) f =
+    let l = f 0 (omega arith) in
+    let r = steps-rising (y ∷ ys) (λ i m. f (suc i) (omega arith)) in
+    ((l, above-less x y ys (omega arith) (r .0)), r)
 
 -- the first of an ascending list that has all of another's entries is no later than the other's first
 first-le : (x y : ℕ) (xs ys : List ℕ) → Above x xs → In y (x ∷ xs) → x ≤ y
@@ -79,6 +87,28 @@ rising-fewer (x ∷ xs) (y ∷ ys) p q f =
         let l = first-le y x ys xs (q .0) (f x (inl refl)) in
         omega arith
 
+-- and it is the same where it is as long
+pub rising-equal : (xs ys : List ℕ) → Rising xs → Rising ys → ((t : ℕ) → In t xs → In t ys) → length xs ≡ length ys → xs ≡ ys
+rising-equal [] [] p q f e = refl
+rising-equal [] (y ∷ ys) p q f e = absurd (omega arith)
+rising-equal (x ∷ xs) [] p q f e = absurd (omega arith)
+rising-equal (x ∷ xs) (y ∷ ys) p q f e =
+    ap₂ _∷_ same
+    (rising-equal xs ys (p .1) (q .1) (λ t i. in-tail y t ys (let k = above-in x t xs (p .0) i in omega (arith, first)) (f t (inr i))) (omega arith))
+  where
+    first : y ≤ x
+    first = first-le y x ys xs (q .0) (f x (inl refl))
+
+    fewer : y < x → length (x ∷ xs) ≤ length ys
+    fewer l = rising-fewer (x ∷ xs) ys p (q .1) (λ t i. in-tail y t ys (let k = first-le x t xs ys (p .0) i in omega arith) (f t i))
+
+    by : Dec (x ≡ y) → x ≡ y
+    by (yes g) = g
+    by (no n) = let few = fewer (omega (arith, n, first)) in absurd (omega arith)
+
+    same : x ≡ y
+    same = by (ℕ-discrete x y)
+
 -- ---- a number put in its place
 -- what stands in a list with t put in: t, and what stood there
 pub in-inserted : (t : ℕ) (xs : List ℕ) → In t (insertion t xs)
@@ -114,6 +144,18 @@ was-in u t (x ∷ xs) i = by (λ k. was-in u t xs k) (ltb t x) (eqb t x) i
     by r false true i = inr i
     by r false false (inl e) = inr (inl e)
     by r false false (inr i) = ⊎-elim inl (λ k. inr (inr k)) (r i)
+
+-- if it is new, the list has one entry more
+pub inserted-longer : (t : ℕ) (xs : List ℕ) → ¬ (In t xs) → length (insertion t xs) ≡ suc (length xs)
+unfolding insertion
+inserted-longer t [] n = refl
+inserted-longer t (x ∷ xs) n = by (inserted-longer t xs (λ i. n (inr i))) (ltb t x) (eqb t x) refl
+  where
+    by : length (insertion t xs) ≡ suc (length xs) → (b c : Bool) → eqb t x ≡ c →
+        length (cond b (t ∷ x ∷ xs) (cond c (x ∷ xs) (x ∷ insertion t xs))) ≡ suc (suc (length xs))
+    by r true c e = refl
+    by r false true e = absurd (n (inl (eqb-true t x e)))
+    by r false false e = ap suc r
 
 -- put in its place, it leaves the list ascending
 pub rising-inserted : (t : ℕ) (xs : List ℕ) → Rising xs → Rising (insertion t xs)

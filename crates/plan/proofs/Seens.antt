@@ -45,7 +45,7 @@ module _ (w h : ℕ) (words : List ℕ) where
 
   -- what is seen from a cell is a turning point
   pub seen-corner : (cell t : ℕ) → Seen w h words cell t → In t (cornerCells w h words)
-  seen-corner cell t s = in-select (cornerCell w h words) (w * h) t (s .shown .0) (s .shown .1 .turns)
+  seen-corner cell t s = in-select (cornerCell w h words) (w * h) t (s .shown .0) (s .shown .1 .shows .turns)
 
   -- there is room for what is seen where there is for all turning points
   pub found-room : (cell : ℕ) → length (cornerCells w h words) ≤ 2048 → (room : ℕ) → room ≡ 2048 → Crowded w h words cell room 0 → ⊥
@@ -58,10 +58,10 @@ module _ (w h : ℕ) (words : List ℕ) where
     -- what is seen from a turning point is one to which it is linked
     pub seen-linked : Seen w h words cell t → In t (cornerCells w h words) × LinkedCells walkers w h words cell t
     seen-linked s =
-        (seen-corner cell t s, shown-link (padded w h words) (s .field) (s .field-in) (s .shown .1) turns)
+        (seen-corner cell t s, shown-link (padded w h words) (s .field) (s .field-in) (s .shown .1 .shows) turns)
 
     -- and the other way round
     pub linked-seen : In t (cornerCells w h words) → LinkedCells walkers w h words cell t → Seen w h words cell t
     linked-seen i l =
-        let (f, lf, n, shows) = link-shown (padded w h words) l in
-        record { field = f; row = n; field-in = lf; shown = (select-in (cornerCell w h words) (w * h) t i .0, shows) }
+        let (f, lf, n, shows, own) = link-shown (padded w h words) l in
+        record { field = f; row = n; field-in = lf; shown = (select-in (cornerCell w h words) (w * h) t i .0, record { shows = shows; own = own }) }

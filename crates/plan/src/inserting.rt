@@ -5,6 +5,7 @@ ghost use Prim.Native.Nat.{suc, _<_, _≤_};
 ghost use lib.ListN.{length, getD, take, drop};
 ghost use Rattle.floor.specs.Refusals.{Tells};
 ghost use Rattle.marks.specs.Lists.{part};
+ghost use Rattle.plan.specs.Rising.{In, Rising};
 ghost use Rattle.plan.specs.Inserting.{Found, Inserted};
 use super::Filled;
 use super::MAX_ARCS;
@@ -31,6 +32,15 @@ pub fn stands(list: &[u16], i: usize, to: usize, t: u16) -> bool
     ensures { λ r. ⌜ Tells ((i < to) × (getD (now (list .entry)) i 0 ≡ t)) r ⌝ }
 {
     if i < to { list[i] == t } else { false }
+}
+
+// Whether t stands among the ascending entries from `from` up to `to`.
+pub fn listed(list: &[u16], from: usize, to: usize, t: u16) -> bool
+    requires { ⌜ (from ≤ to) × ((to ≤ length (now list)) × Rising (part (now list) from to)) ⌝ }
+    ensures { λ r. ⌜ Tells (In t (part (now (list .entry)) from to)) r ⌝ }
+{
+    let i = find(list, from, to, t);
+    stands(list, i, to, t)
 }
 
 // Moves the entries from `at` up to `to` one place on; the entry at `at` keeps its value.

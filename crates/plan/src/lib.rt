@@ -8,6 +8,7 @@ ghost use Rattle.plan.specs.Survey.{earlyRows, lists, wipedAll, refusal,
 mod inserting;
 mod linking;
 
+pub use inserting::listed;
 pub use linking::link_one;
 
 pub const MAX_CORNERS: usize = 2048;

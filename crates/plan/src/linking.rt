@@ -35,15 +35,20 @@ fn link_field(
     requires { ⌜ Sweepable w h (now words) cell (now clear) × (Finding w h (now words) cell (now list) from m × (field < 8)) ⌝ }
     ensures { λ r. ⌜ FieldSwept w h (now (words .entry)) cell (now (list .entry)) from m field r (now (list .exit)) ⌝ }
 {
+    let sx = cell % w;
+    let sy = cell / w;
     let mut end = m;
-    let mut s = fields::begin(cell % w, cell / w, field);
-    while s.on {
-        s = fields::pass_row(words, w, h, clear, s);
-        let put = put_shown(list, from, end, s.shown);
+    let mut row = 0;
+    let mut reach = 255;
+    while reach < fields::ENDED {
+        let e = fields::pass_row(words, w, h, clear, sx, sy, field, row, reach);
+        let put = put_shown(list, from, end, e.shown);
         let Filled::To(k) = put else {
             return Filled::NoRoom;
         };
         end = k;
+        row += 1;
+        reach = e.reach;
     }
     Filled::To(end)
 }
