@@ -51,12 +51,12 @@ module _ (w h : ℕ) (words corners : List ℕ) (cell n c : ℕ) (W : List ℕ) 
 -- ---- what is seen is direct
 module _ (w h : ℕ) (words : List ℕ) where
   pub seen-direct : (s t : ℕ) → Seen w h words s t → DirectCells w h words s t
-  seen-direct s t seen = shown-direct (padded w h words) (seen .field) (seen .field-in) (seen .shown .1)
+  seen-direct s t seen = shown-direct (padded w h words) (seen .field) (seen .field-in) (seen .shown .1 .shows)
 
   pub direct-seen : (s t : ℕ) → t < w * h → cornerCell w h words t ≡ true → s ≢ t → DirectCells w h words s t → Seen w h words s t
   direct-seen s t l turns other direct =
-      let (f, lf, n, shows) = direct-shown (padded w h words) (placeOf w s) (placeOf w t) direct turns (λ e. other (same-cell w s t e)) in
-      record { field = f; row = n; field-in = lf; shown = (l, shows) }
+      let (f, lf, n, shows, own) = direct-shown (padded w h words) (placeOf w s) (placeOf w t) direct turns (λ e. other (same-cell w s t e)) in
+      record { field = f; row = n; field-in = lf; shown = (l, record { shows = shows; own = own }) }
 
 -- ---- the chart
 module _ (w h : ℕ) (words : List ℕ) (p : Lists) (start goal : ℕ) (W : List ℕ) (able : Searchable w h words p start goal W) where
@@ -81,7 +81,7 @@ module _ (w h : ℕ) (words : List ℕ) (p : Lists) (start goal : ℕ) (W : List
           room = let r = able .room in rw e (omega arith);
           ascending = corners-ascend own;
         };
-        listed = λ t seen. corner-index own t (seen .shown .0) (seen .shown .1 .turns);
+        listed = λ t seen. corner-index own t (seen .shown .0) (seen .shown .1 .shows .turns);
         few = rw (← own .marks .ascending) (able .fits .few-corners);
       }
 

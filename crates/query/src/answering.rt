@@ -6,6 +6,7 @@ ghost use Rattle.lengths.specs.Lengths.{lenOf};
 ghost use Rattle.floor.specs.Board.{at};
 ghost use Rattle.floor.specs.Words.{numberOf};
 ghost use Rattle.search.specs.Columns.{Next, Only};
+ghost use Rattle.search.specs.Places.{Indexed};
 ghost use Rattle.line.specs.Cells.{Cell};
 ghost use Rattle.chain.specs.Chain.{Journey, Walked};
 ghost use Rattle.query.specs.Steps.{Unrefused, LateOutcome};
@@ -52,16 +53,18 @@ fn retrace(
     starts: &[u16],
     neighbours: &[u16],
     t: Trip,
+    table: &[u16],
     effort: usize,
     route: &mut [u16],
     work: &mut [u32],
 ) -> Answer
     requires walked { ⌜ ((a : Journey) × Walked a (now corners) (now starts) (now neighbours) t (now work)) ⌝ }
     requires effort { ⌜ effort < 65536 ⌝ }
+    requires indexed { ⌜ Indexed (now corners) (now table) ⌝ }
     ensures told { λ r. ⌜ ((a : Journey) → Walked a (now (corners .entry)) (now (starts .entry)) (now (neighbours .entry)) t (now (work .entry)) → Retraced a effort r (now (route .entry)) (now (route .exit))) ⌝ }
     ensures only { λ r. ⌜ Only (t .k + 2) (now (work .entry)) Next (now (work .exit)) ⌝ }
 {
-    let walk = chain::link_back(corners, starts, neighbours, t, work);
+    let walk = chain::link_back(corners, starts, neighbours, t, table, work);
     let told = tell(walk, effort, route.len());
     if told.code == 0 {
         chain::write_route(corners, t, work, route);
@@ -100,10 +103,12 @@ fn search_answer(
         goal,
         work,
     );
+    let mut table = [0u16; 16384];
+    search::index_corners(corners, &mut table);
     let places = t.k + 2;
-    let effort = search::run(corners, starts, neighbours, t, work, places);
+    let effort = search::run(corners, starts, neighbours, t, &table, work, places);
     if search::get(work, places, search::SETTLED, t.to) > 0 {
-        retrace(corners, starts, neighbours, t, effort, route, work)
+        retrace(corners, starts, neighbours, t, &table, effort, route, work)
     } else {
         Answer {
             code: 12,

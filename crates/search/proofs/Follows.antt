@@ -156,7 +156,7 @@ module _ {C S E : List ℕ} {t : Trip} {W Q : List ℕ} (u j : ℕ) (ready : Rea
   arc-entry = omega (arith, is-cell, ready .fair .small (indexOf C to) (omega (arith, known)), indexed .room)
 
   -- That entry is the corner's index.
-  arc-index : getD Q to 0 ≡ indexOf C to
+  pub arc-index : getD Q to 0 ≡ indexOf C to
   arc-index =
       let q = index-at C to (rw (ready .fair .corners) known) in
       rw q at (indexed .index (indexOf C to) (rw (ready .fair .corners) known))

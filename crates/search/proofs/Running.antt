@@ -18,7 +18,7 @@ use Rattle.settling.specs.Labels.{Labels, WaitingAt, First as Start, Step, Soun
 use Rattle.settling.specs.Counts.{Counts, with, without, below}
 use Rattle.settling.proofs.Ranks.{no-later-trans, shorter-of-first}
 use Rattle.settling.proofs.Search.{follow, settled-shortest, none-before, settled-reachable, first-sound, step-sound}
-use Rattle.settling.proofs.Tally.{counts-none, counts-at-most, length-below}
+use Rattle.settling.proofs.Tally.{counts-unique, counts-none, counts-at-most, length-below}
 use Rattle.settling.proofs.Effort.{first-none-after, step-counts, none-after-unsettled, effort-without-goal, effort-distinct, settled-in-reach, none-tie}
 use Rattle.search.specs.declared.Trip.{Trip}
 use Rattle.search.specs.Columns.{columnOf, Label, Left}
@@ -72,16 +72,12 @@ module _ {C S E : List ℕ} {t : Trip} {W₀ : List ℕ} (ready : Ready C S E t 
   𝓒 = chart C S E t W₀
 
   -- Once the start has its label, the search has begun.
-  pub running-first : {T₀ W T : List ℕ} (budget : ℕ) → Blank (t .k + 2) W₀ → Offer C t W₀ T₀ (t .from) 1 W T → Running C S E t W₀ T₀ budget W T 0
-  running-first {T₀} {W} budget blank o = record {
-    left = o .left;
-    right = o .right;
-    tree = o .tree;
-    sound = first-sound (net 𝓒) (order 𝓒) (consistent 𝓒 (ready .fair)) (labelsOf (t .k + 2) W) first;
-    none-after = first-none-after (net 𝓒) (order 𝓒) (consistent 𝓒 (ready .fair)) (labelsOf (t .k + 2) W) (t .to) first;
-    counted = counts-none (λ x e. true≢false (sym e ∙ first .unsettled x)) _;
-    within = omega arith;
-  }
+  pub begun-first : {T₀ W T : List ℕ} → Blank (t .k + 2) W₀ → Offer C t W₀ T₀ (t .from) 1 W T → Start (net (chart C S E t W)) (labelsOf (t .k + 2) W)
+  begun-first {T₀} {W} blank o = rw (chart-same C S E t (o .left)) (record {
+    at-start = rw at-from;
+    others = λ v d h. only v d (some-read (getD (columnOf (t .k + 2) W Label) v 0) d h) (ℕ-discrete v (t .from));
+    unsettled = λ v. rw (o .settled, blank .settled v);
+  })
     where
       inside : t .from < length (columnOf (t .k + 2) W₀ Label)
       inside = rw (column-length (t .k + 2) W₀ Label (omega arith) (ready .room)) (omega (arith, ready .fair .from))
@@ -98,12 +94,17 @@ module _ {C S E : List ℕ} {t : Trip} {W₀ : List ℕ} (ready : Ready C S E t 
           let z : getD (columnOf (t .k + 2) W Label) v 0 ≡ 0 = rw label (getD-set-other (columnOf (t .k + 2) W₀ Label) (t .from) v 1 0 n) ∙ blank .label v in
           absurd (omega arith)
 
-      first : Start (net 𝓒) (labelsOf (t .k + 2) W)
-      first = record {
-        at-start = rw at-from;
-        others = λ v d h. only v d (some-read (getD (columnOf (t .k + 2) W Label) v 0) d h) (ℕ-discrete v (t .from));
-        unsettled = λ v. rw (o .settled, blank .settled v);
-      }
+  -- Before the first turn no place is settled.
+  pub running-first : {T₀ : List ℕ} (budget : ℕ) → Right C t W₀ T₀ → Start (net 𝓒) (labelsOf (t .k + 2) W₀) → Running C S E t W₀ T₀ budget W₀ T₀ 0
+  running-first budget right first = record {
+    left = left-same _ _;
+    right = right;
+    tree = refl;
+    sound = first-sound (net 𝓒) (order 𝓒) (consistent 𝓒 (ready .fair)) (labelsOf (t .k + 2) W₀) first;
+    none-after = first-none-after (net 𝓒) (order 𝓒) (consistent 𝓒 (ready .fair)) (labelsOf (t .k + 2) W₀) (t .to) first;
+    counted = counts-none (λ x e. true≢false (sym e ∙ first .unsettled x)) _;
+    within = omega arith;
+  }
 
   module _ {T₀ : List ℕ} {budget : ℕ} {W T : List ℕ} {m : ℕ} (run : Running C S E t W₀ T₀ budget W T m) where
     -- A run stays ready.
@@ -188,25 +189,31 @@ module _ {C S E : List ℕ} {t : Trip} {W₀ : List ℕ} (ready : Ready C S E t 
       left = run .left;
     }
 
--- The loop begins after the start has its label: what holds of the work space then holds of the one at entry.
-module _ {C S E : List ℕ} {t : Trip} {W₀ W₁ : List ℕ} (begun : Left (t .k + 2) W₀ W₁) where
-  -- The invariant over the work space with which the loop begins.
-  pub running-begun : {T₀ T₁ : List ℕ} {budget m : ℕ} → Running C S E t W₀ T₀ budget W₁ T₁ m → Running C S E t W₁ T₁ budget W₁ T₁ m
-  running-begun r = record {
-    left = left-same _ _;
-    right = r .right;
-    tree = refl;
-    sound = rw (chart-same C S E t begun) (r .sound);
-    none-after = rw (chart-same C S E t begun) (r .none-after);
-    counted = r .counted;
-    within = r .within;
-  }
-
-  -- What a run from there comes to.
-  pub run-begun : {budget m : ℕ} {W : List ℕ} → Run C S E t W₁ budget m W → Run C S E t W₀ budget m W
-  run-begun r = record { outcome = rw (chart-same C S E t begun) at (r .outcome); left = left-trans begun (r .left) }
+-- What a run comes to that begins after the start has its label, by the work space at entry: the number of settled places is the only one.
+pub run-begun :
+    {C S E : List ℕ} {t : Trip} {W₀ W₁ : List ℕ} → Left (t .k + 2) W₀ W₁ → {budget m r : ℕ} {W : List ℕ} → Run C S E t W₁ budget m W →
+    Counts (λ v. labelsOf (t .k + 2) W .settled v ≡ true) (below (t .k + 2)) r →
+    Run C S E t W₀ budget r W
+run-begun {C} {S} {E} {t} begun run count =
+    rw (counts-unique count (run .outcome .counted))
+    (record { outcome = rw (chart-same C S E t begun) at (run .outcome); left = left-trans begun (run .left) })
 
 -- Chains stay bounded.
 pub bounded-begun :
     (C S E : List ℕ) (t : Trip) {W₀ W₁ : List ℕ} → Left (t .k + 2) W₀ W₁ → Bounded (chart C S E t W₀) → Bounded (chart C S E t W₁)
 bounded-begun C S E t begun b = rw (chart-same C S E t begun) b
+
+-- ---- the settled places counted
+-- One place further: it counts where it has the property.
+module _ {P : ℕ → Type 0} {i m : ℕ} (c : Counts P (below i) m) where
+  -- It has.
+  pub counts-with : P i → Counts P (below (i + 1)) (m + 1)
+  counts-with p = rw (add-one i, add-one m) (with p c)
+
+  -- It has not.
+  pub counts-without : (P i → ⊥) → Counts P (below (i + 1)) m
+  counts-without n = rw (add-one i) (without n c)
+
+  -- So far there are no more than were looked at.
+  pub counts-fit : m ≤ i
+  counts-fit = omega (arith, counts-at-most c, length-below i)

@@ -1,17 +1,21 @@
 // The search over places, nearest first, of equally near ones the smaller cell number first. Places are the corners by
 // their index, then the start (k) and the goal (k + 1), unless they are corners themselves. What a search finds is in a
 // work space that the caller lends: six columns of k + 2 entries, where 0 means nothing, so that zeros are an empty
-// search. What it needs only while it runs is in arrays of its own: a tree of keys, which tells the place that comes
-// first, and a table, which tells the index of a neighbour. They take about 65 KB of the call's stack.
+// search. What it needs only while it runs is in an array of its own: a tree of keys, which tells the place that comes
+// first, 33 KB of the call's stack. The caller lends a table besides, which tells the index of a neighbour: it serves the
+// search and the way back.
 ghost use mathlib.Core.Path.{_≡_};
 ghost use Prim.Native.Nat.{ℕ, _+_, _*_, _<_, _≤_, min};
+ghost use mathlib.Core.Bool.{true};
 ghost use mathlib.Core.List.{List};
 ghost use lib.ListN.{length, getD};
 ghost use Rattle.lengths.specs.Lengths.{octileOf};
 ghost use Rattle.lengths.specs.Laws.{weight};
+ghost use Rattle.settling.specs.Labels.{First as Begun};
+ghost use Rattle.settling.specs.Counts.{Counts, below};
 ghost use Rattle.search.specs.Columns.{columnOf, Inside, Put};
 ghost use Rattle.search.specs.Places.{indexOf, Ascending, Bound, Gain, Indexed, cellAt, apart, TwoCells};
-ghost use Rattle.search.specs.Chart.{chart, flagged as flaggedOf, Rows, arcsOf, countOf, cornerLink, linkAt, linkCount};
+ghost use Rattle.search.specs.Chart.{chart, flagged as flaggedOf, Rows, arcsOf, countOf, cornerLink, linkAt, linkCount, net};
 ghost use Rattle.search.specs.Keys.{nobody, Keyed};
 ghost use Rattle.search.specs.Tree.{Room, Small, Right};
 ghost use Rattle.search.specs.Search.{labelsOf, Ready, limit, Near, Settling, Blank, Bounded, Run};
@@ -161,7 +165,7 @@ pub fn find(cells: &[u16], cell: usize) -> usize
 }
 
 // Writes the index of each corner to its cell's entry of a table.
-fn index_corners(corners: &[u16], table: &mut [u16])
+pub fn index_corners(corners: &[u16], table: &mut [u16])
     requires ascending { ⌜ Ascending (now corners) ⌝ }
     requires few { ⌜ length (now corners) ≤ 2048 ⌝ }
     requires small { ⌜ ((i : ℕ) → i < length (now corners) → getD (now corners) i 0 < 16384) ⌝ }
@@ -216,25 +220,27 @@ pub fn link_count(starts: &[u16], k: usize, u: usize) -> usize
     k
 }
 
-// Link j of corner u: a neighbour, or the start, or the goal.
+// Link j of corner u: a neighbour, whose index the table tells, or the start, or the goal.
 fn corner_link(
     corners: &[u16],
     starts: &[u16],
     neighbours: &[u16],
     t: Trip,
+    table: &[u16],
     work: &[u32],
     u: usize,
     j: usize,
 ) -> usize
     requires ready { ⌜ Ready (now corners) (now starts) (now neighbours) t (now work) ⌝ }
     requires corner { ⌜ u < t .k ⌝ }
+    requires indexed { ⌜ Indexed (now corners) (now table) ⌝ }
     ensures { λ r. ⌜ r ≡ cornerLink (chart (now (corners .entry)) (now (starts .entry)) (now (neighbours .entry)) t (now (work .entry))) u j ⌝ }
 {
     let count = arc_count(starts, u);
     if j < count {
         let at = wide(starts[u]) + j;
         let c = wide(neighbours[at]);
-        return find(corners, c) + 1;
+        return wide(table[c]) + 1;
     }
     if j == count {
         return flagged(work, t.k + 2, BY_START, u, t.k);
@@ -248,16 +254,18 @@ pub fn link_at(
     starts: &[u16],
     neighbours: &[u16],
     t: Trip,
+    table: &[u16],
     work: &[u32],
     u: usize,
     j: usize,
 ) -> usize
     requires ready { ⌜ Ready (now corners) (now starts) (now neighbours) t (now work) ⌝ }
     requires there { ⌜ j < linkCount (chart (now corners) (now starts) (now neighbours) t (now work)) u ⌝ }
+    requires indexed { ⌜ Indexed (now corners) (now table) ⌝ }
     ensures { λ r. ⌜ r ≡ linkAt (chart (now (corners .entry)) (now (starts .entry)) (now (neighbours .entry)) t (now (work .entry))) u j ⌝ }
 {
     if u < t.k {
-        return corner_link(corners, starts, neighbours, t, work, u, j);
+        return corner_link(corners, starts, neighbours, t, table, work, u, j);
     }
     if u == t.k {
         return flagged(work, t.k + 2, BY_START, j, j);
@@ -309,6 +317,7 @@ fn follow(
     starts: &[u16],
     neighbours: &[u16],
     t: Trip,
+    table: &[u16],
     work: &mut [u32],
     tree: &mut [u64],
     u: usize,
@@ -317,12 +326,13 @@ fn follow(
 )
     requires ready { ⌜ Ready (now corners) (now starts) (now neighbours) t (now work) ⌝ }
     requires right { ⌜ Right (now corners) t (now work) (now tree) ⌝ }
+    requires indexed { ⌜ Indexed (now corners) (now table) ⌝ }
     requires inside { ⌜ u < t .k + 2 ⌝ }
     requires there { ⌜ j < linkCount (chart (now corners) (now starts) (now neighbours) t (now work)) u ⌝ }
     requires short { ⌜ (0 < d) × (d ≤ limit + 1) ⌝ }
     ensures { λ r. ⌜ Follow (now (corners .entry)) (now (starts .entry)) (now (neighbours .entry)) t (now (work .entry)) (now (tree .entry)) u d j (now (work .exit)) (now (tree .exit)) ⌝ }
 {
-    let to = link_at(corners, starts, neighbours, t, work, u, j);
+    let to = link_at(corners, starts, neighbours, t, table, work, u, j);
     if to != 0 {
         let v = to - 1;
         let a = cell_of(corners, t, u);
@@ -391,7 +401,7 @@ fn follow_all(
     let count = link_count(starts, t.k, u);
     let mut j = follow_arcs(corners, starts, neighbours, t, table, work, tree, u, d);
     while j < count {
-        follow(corners, starts, neighbours, t, work, tree, u, d, j);
+        follow(corners, starts, neighbours, t, table, work, tree, u, d, j);
         j += 1;
     }
 }
@@ -459,36 +469,83 @@ fn begin(corners: &[u16], t: Trip, work: &mut [u32], tree: &mut [u64])
     offer(corners, t, work, tree, t.from, 1);
 }
 
+// Settles places from the start on, until the goal is settled, none waits or `budget` of them are settled.
+fn settle_up_to(
+    corners: &[u16],
+    starts: &[u16],
+    neighbours: &[u16],
+    t: Trip,
+    table: &[u16],
+    work: &mut [u32],
+    tree: &mut [u64],
+    budget: usize,
+)
+    requires ready { ⌜ Ready (now corners) (now starts) (now neighbours) t (now work) ⌝ }
+    requires right { ⌜ Right (now corners) t (now work) (now tree) ⌝ }
+    requires indexed { ⌜ Indexed (now corners) (now table) ⌝ }
+    requires begun { ⌜ Begun (net (chart (now corners) (now starts) (now neighbours) t (now work))) (labelsOf (t .k + 2) (now work)) ⌝ }
+    requires bounded { ⌜ Bounded (chart (now corners) (now starts) (now neighbours) t (now work)) ⌝ }
+    ensures { λ r. ⌜ ((m : ℕ) × Run (now (corners .entry)) (now (starts .entry)) (now (neighbours .entry)) t (now (work .entry)) budget m (now (work .exit))) ⌝ }
+{
+    let mut turns: usize = 0;
+    while turns < budget {
+        let done = get(work, t.k + 2, SETTLED, t.to);
+        if 0 < done {
+            return;
+        }
+        let last = settle(corners, starts, neighbours, t, table, work, tree);
+        if last == 0 {
+            return;
+        }
+        turns += 1;
+    }
+}
+
+// How many of n places are settled, by their marks.
+fn settled_count(work: &[u32], n: usize) -> usize
+    requires { ⌜ 6 * n ≤ length (now work) ⌝ }
+    ensures { λ r. ⌜ Counts (λ v. labelsOf n (now (work .entry)) .settled v ≡ true) (below n) r ⌝ }
+{
+    let mut count: usize = 0;
+    let mut i: usize = 0;
+    while i < n {
+        let flag = get(work, n, SETTLED, i);
+        if 0 < flag {
+            count += 1;
+        }
+        i += 1;
+    }
+    count
+}
+
 // Settles places from the start on, until the goal is settled, none waits or `budget` of them are settled, and says how
-// many were.
+// many are.
 pub fn run(
     corners: &[u16],
     starts: &[u16],
     neighbours: &[u16],
     t: Trip,
+    table: &[u16],
     work: &mut [u32],
     budget: usize,
 ) -> usize
     requires ready { ⌜ Ready (now corners) (now starts) (now neighbours) t (now work) ⌝ }
     requires blank { ⌜ Blank (t .k + 2) (now work) ⌝ }
     requires bounded { ⌜ Bounded (chart (now corners) (now starts) (now neighbours) t (now work)) ⌝ }
+    requires indexed { ⌜ Indexed (now corners) (now table) ⌝ }
     ensures { λ r. ⌜ Run (now (corners .entry)) (now (starts .entry)) (now (neighbours .entry)) t (now (work .entry)) budget r (now (work .exit)) ⌝ }
 {
-    let mut table = [0u16; 16384];
     let mut tree = [tree::NOBODY; 4100];
-    index_corners(corners, &mut table);
     begin(corners, t, work, &mut tree);
-    let mut effort: usize = 0;
-    while effort < budget {
-        let done = get(work, t.k + 2, SETTLED, t.to);
-        if 0 < done {
-            return effort;
-        }
-        let last = settle(corners, starts, neighbours, t, &table, work, &mut tree);
-        if last == 0 {
-            return effort;
-        }
-        effort += 1;
-    }
-    effort
+    settle_up_to(
+        corners,
+        starts,
+        neighbours,
+        t,
+        table,
+        work,
+        &mut tree,
+        budget,
+    );
+    settled_count(work, t.k + 2)
 }

@@ -12,24 +12,24 @@ use Rattle.chain.proofs.place_before.Statement.{statement}
 use Rattle.chain.proofs.place_before.Tie as tie
 
 abbrev Inv-loop : tie.InvT-loop
-Inv-loop corners starts neighbours t work v count best₀ j₀ best j =
+Inv-loop corners starts neighbours t table work v count best₀ j₀ best j =
     (count ≡ linkCount (chart corners starts neighbours t work) v) × (j ≤ count) × Best corners starts neighbours t work v j best
 
 abbrev μ-loop : tie.MeasureT-loop
-μ-loop corners starts neighbours t work v count best₀ j₀ best j = count - j
+μ-loop corners starts neighbours t table work v count best₀ j₀ best j = count - j
 
 link-count-requires : tie.Need-link-count-requires Inv-loop μ-loop
-link-count-requires c κs = c .before .before .before .before .pre .0 .1 .ready .fair .rows
+link-count-requires c κs = c .before .before .before .before .before .pre .0 .1 .ready .fair .rows
 
 loop-holds : tie.Need-loop-holds Inv-loop μ-loop
 loop-holds c = (c .link-count .ensures, omega arith, best-none)
 
 link-at-requires : tie.Need-link-at-requires Inv-loop μ-loop
-link-at-requires c κs = (c .before .before .before .before .before .before .before .pre .0 .1 .ready, let e = c .before .loop .inv .0 in omega arith)
+link-at-requires c κs = (c .before .before .before .before .before .before .before .before .pre .0 .1 .ready, (let e = c .before .loop .inv .0 in omega arith, c .before .before .before .before .before .before .before .before .pre .1 .1 .1))
 
 leads-to-requires : tie.Need-leads-to-requires Inv-loop μ-loop
 leads-to-requires c κs =
-    let s = c .before .before .before .before .before .before .before .before in
+    let s = c .before .before .before .before .before .before .before .before .before in
     let k = s .pre .0 .1 in
     let a = s .args in
     let l = c .before .before .loop in
@@ -47,13 +47,13 @@ leads-to-requires c κs =
 
 lesser-requires : tie.Need-lesser-requires Inv-loop μ-loop
 lesser-requires c κs = (
-  c .before .before .before .before .before .before .before .before .before .before .pre .0 .1 .ready .fair .corners,
+  c .before .before .before .before .before .before .before .before .before .before .before .pre .0 .1 .ready .fair .corners,
   c .before .leads-to .ensures .yes (c .if1 .taken) .some,
 )
 
 loop-again : tie.Need-loop-again Inv-loop μ-loop
 loop-again c =
-    let s = c .before .before .before .before .before .before .before .before .before .before in
+    let s = c .before .before .before .before .before .before .before .before .before .before .before in
     let a = s .args in
     let l = c .before .before .before .before .loop in
     let e = c .before .before .link-at .ensures in
@@ -75,24 +75,24 @@ loop-again c =
 
 -- all links have been looked at
 all-seen : (c : tie.After-loop Inv-loop μ-loop) →
-    Best (c .before .before .before .before .before .before .before .args .corners .now) (c .before .before .before .before .before .before .before .args .starts .now) (c .before .before .before .before .before .before .before .args .neighbours .now) (c .before .before .before .before .before .before .before .args .t) (c .before .before .before .before .before .before .before .args .work .now) (c .before .before .before .before .before .before .before .args .v)
-    (linkCount (chart (c .before .before .before .before .before .before .before .args .corners .now) (c .before .before .before .before .before .before .before .args .starts .now) (c .before .before .before .before .before .before .before .args .neighbours .now) (c .before .before .before .before .before .before .before .args .t) (c .before .before .before .before .before .before .before .args .work .now)) (c .before .before .before .before .before .before .before .args .v))
+    Best (c .before .before .before .before .before .before .before .before .args .corners .now) (c .before .before .before .before .before .before .before .before .args .starts .now) (c .before .before .before .before .before .before .before .before .args .neighbours .now) (c .before .before .before .before .before .before .before .before .args .t) (c .before .before .before .before .before .before .before .before .args .work .now) (c .before .before .before .before .before .before .before .before .args .v)
+    (linkCount (chart (c .before .before .before .before .before .before .before .before .args .corners .now) (c .before .before .before .before .before .before .before .before .args .starts .now) (c .before .before .before .before .before .before .before .before .args .neighbours .now) (c .before .before .before .before .before .before .before .before .args .t) (c .before .before .before .before .before .before .before .before .args .work .now)) (c .before .before .before .before .before .before .before .before .args .v))
     (c .before .loop .best)
 all-seen c =
-    let a = c .before .before .before .before .before .before .before .args in
+    let a = c .before .before .before .before .before .before .before .before .args in
     let l = c .before .loop in
     let q : l .j ≡ linkCount (chart (a .corners .now) (a .starts .now) (a .neighbours .now) (a .t) (a .work .now)) (a .v) = let e = l .inv .0 in omega arith in
     subst (λ (j : ℕ). Best (a .corners .now) (a .starts .now) (a .neighbours .now) (a .t) (a .work .now) (a .v) j (l .best)) q (l .inv .2)
 
 sub-result : tie.Need-sub-result Inv-loop μ-loop
 sub-result c =
-    let s = c .before .before .before .before .before .before .before in
-    best-some (s .pre .0 .1) (s .pre .1 .0) (s .pre .1 .1) (all-seen c)
+    let s = c .before .before .before .before .before .before .before .before in
+    best-some (s .pre .0 .1) (s .pre .1 .0) (s .pre .1 .1 .0) (all-seen c)
 
 returns : tie.Need-returns Inv-loop μ-loop
 returns c = λ a k.
-    let s = c .before .before .before .before .before .before .before in
-    best-prior k (s .pre .1 .0) (s .pre .1 .1) (all-seen c)
+    let s = c .before .before .before .before .before .before .before .before in
+    best-prior k (s .pre .1 .0) (s .pre .1 .1 .0) (all-seen c)
 
 pub place-before-spec : {M : Type 1} → statement M
 place-before-spec =

@@ -1,44 +1,42 @@
 -- `search::corner_link` meets its contract. Assumes nothing.
 use native.Mathlib.Omega.{arith}
-use borrow.Author.Needs.{needs}
 use mathlib.Core.Path.{sym, _∙_}
-use Prim.Native.Nat.{_+_}
-use Rattle.search.specs.Chart.{chart, arcsOf}
-use Rattle.search.proofs.Cells.{index-most}
+use Rattle.search.specs.Chart.{chart}
+use Rattle.search.proofs.Follows.{arc-within, arc-entry, arc-index}
 use Rattle.search.proofs.Links.{corner-arc, corner-start, corner-goal}
+use borrow.Author.Needs.{needs}
 use Rattle.search.proofs.corner_link.Statement.{statement}
 use Rattle.search.proofs.corner_link.Tie as tie
 
 arc-count-requires : tie.Need-arc-count-requires
 arc-count-requires c κs =
-    let f = c .before .before .before .before .pre .0 .fair .rows in
-    (omega (arith, f .starts), f .rising (c .before .before .before .before .args .u) (omega arith))
+    let f = c .before .before .before .before .before .pre .0 .fair .rows in
+    (omega (arith, f .starts), f .rising (c .before .before .before .before .before .args .u) (omega arith))
 
 shared-slice-read-wide-2 : tie.Need-shared-slice-read-wide-2
-unfolding arcsOf
-shared-slice-read-wide-2 c = omega (arith, c .before .before .before .before .before .before .before .before .before .pre .0 .fair .within (c .before .before .before .before .before .before .before .before .before .args .u + 1) (omega arith))
+shared-slice-read-wide-2 c = rw (c .before .wide .ensures .0) (arc-within (c .before .before .before .before .before .before .before .before .before .before .args .u) (c .before .before .before .before .before .before .before .before .before .before .args .j) (c .before .before .before .before .before .before .before .before .before .before .pre .0) (c .before .before .before .before .before .before .before .before .before .before .pre .1 .1) (omega arith) (omega (arith, c .before .before .before .before .arc-count .ensures .0)))
 
-find-requires : tie.Need-find-requires
-find-requires c κs = c .before .before .before .before .before .before .before .before .before .before .pre .0 .fair .ascending
-
-add-result : tie.Need-add-result
-add-result c = omega (arith, index-most (c .before .before .before .before .before .before .before .before .before .before .before .args .corners .now) (c .before .wide2 .result))
+shared-slice-read-wide-3 : tie.Need-shared-slice-read-wide-3
+shared-slice-read-wide-3 c =
+    let b = rw (c .before .before .before .wide .ensures .0) at (c .before .wide2 .ensures .0) in
+    rw b (arc-entry (c .before .before .before .before .before .before .before .before .before .before .before .before .args .u) (c .before .before .before .before .before .before .before .before .before .before .before .before .args .j) (c .before .before .before .before .before .before .before .before .before .before .before .before .pre .0) (c .before .before .before .before .before .before .before .before .before .before .before .before .pre .1 .1) (omega arith) (omega (arith, c .before .before .before .before .before .before .arc-count .ensures .0)))
 
 returns : tie.Need-returns
 returns c =
-    let a = c .before .before .before .before .before .before .before .before .before .before .before .args in
+    let a = c .before .before .before .before .before .before .before .before .before .before .before .before .before .args in
     let 𝓒 = chart (a .corners .now) (a .starts .now) (a .neighbours .now) (a .t) (a .work .now) in
-    rw (corner-arc 𝓒 (a .u) (a .j) (omega arith), c .find .ensures, c .before .wide2 .ensures .0, c .before .before .before .wide .ensures .0)
+    let b = rw (c .before .before .before .before .wide .ensures .0) at (c .before .before .wide2 .ensures .0) in
+    rw (corner-arc 𝓒 (a .u) (a .j) (omega arith), c .wide3 .ensures .0, b, arc-index (a .u) (a .j) (c .before .before .before .before .before .before .before .before .before .before .before .before .before .pre .0) (c .before .before .before .before .before .before .before .before .before .before .before .before .before .pre .1 .1) (omega arith) (omega (arith, c .before .before .before .before .before .before .before .arc-count .ensures .0)))
 
 returns-2 : tie.Need-returns-2
 returns-2 c =
-    let a = c .before .before .before .before .before .before .before .before .before .args in
+    let a = c .before .before .before .before .before .before .before .before .before .before .args in
     let 𝓒 = chart (a .corners .now) (a .starts .now) (a .neighbours .now) (a .t) (a .work .now) in
     c .flagged .ensures ∙ sym (corner-start 𝓒 (a .u) (a .j) (omega arith))
 
 returns-3 : tie.Need-returns-3
 returns-3 c =
-    let a = c .before .before .before .before .before .before .before .before .before .before .args in
+    let a = c .before .before .before .before .before .before .before .before .before .before .before .args in
     let 𝓒 = chart (a .corners .now) (a .starts .now) (a .neighbours .now) (a .t) (a .work .now) in
     c .flagged2 .ensures ∙ sym (corner-goal 𝓒 (a .u) (a .j) (omega arith))
 
@@ -54,8 +52,10 @@ corner-link-spec =
     (search needs)
     shared-slice-read-wide-2
     (search needs)
-    find-requires
-    add-result
+    (search needs)
+    shared-slice-read-wide-3
+    (search needs)
+    (search needs)
     returns
     (search needs)
     (search needs)

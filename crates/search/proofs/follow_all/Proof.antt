@@ -27,7 +27,7 @@ follow-requires : tie.Need-follow-requires Inv-loop μ-loop
 follow-requires c κs =
     let f = c .before .before .before .loop .inv .1 in
     let p = c .before .before .before .before .before .before .before .before .before .before .before .before .before .before .before .before .before .before .pre .1 .1 .1 in
-    (f .ready, (f .right, (p .0, (omega (arith, c .before .before .before .before .before .before .before .before .before .before .before .link-count .ensures), p .1))))
+    (f .ready, (f .right, (c .before .before .before .before .before .before .before .before .before .before .before .before .before .before .before .before .before .before .pre .1 .1 .0, (p .0, (omega (arith, c .before .before .before .before .before .before .before .before .before .before .before .link-count .ensures), p .1)))))
 
 add-j : tie.Need-add-j Inv-loop μ-loop
 add-j c = omega arith

@@ -16,7 +16,7 @@ tell-requires c κs = search needs
 
 write-route-requires : tie.Need-write-route-requires
 write-route-requires c κs =
-    let s = c .before .before .before .before .before .before .before .before .before .before .before .before .before .before in
+    let s = c .before .before .before .before .before .before .before .before .before .before .before .before .before .before .before in
     let (a, k) = s .pre .0 in
     let e = c .before .before .before .before .before .before .before .link-back .ensures in
     let n = e .1 a k in
@@ -30,7 +30,7 @@ same-length-2 c = search needs
 
 returns : tie.Need-returns
 returns c =
-    let s = c .before .before .before .before .before .before .before .before .before .before .before .before .before .before .before .before .before in
+    let s = c .before .before .before .before .before .before .before .before .before .before .before .before .before .before .before .before .before .before in
     let e = c .before .before .before .before .before .before .before .before .before .before .link-back .ensures in (
       λ a k.
           let n = e .1 a k in
@@ -44,7 +44,7 @@ same-length-3 c = search needs
 
 returns-2 : tie.Need-returns-2
 returns-2 c =
-    let s = c .before .before .before .before .before .before .before .before .before .before .before .before in
+    let s = c .before .before .before .before .before .before .before .before .before .before .before .before .before in
     let e = c .before .before .before .before .before .link-back .ensures in
     (λ a k. retraced-full k (e .0) (e .1 a k) (s .args .route .now) (c .before .before .tell .ensures) (c .if1 .left), e .0)
 

@@ -7,15 +7,9 @@ use borrow.Author.Needs.{needs}
 use lib.ListN.{length}
 use Rattle.query.proofs.Wiping.{zeroed-length}
 use Rattle.query.proofs.Searching.{cleared-empty, still-searchable, search-ready, search-bounded, goal-read, few-settled, goal-walked, answer-found, lost-effort, lost-beyond, found-beyond}
+use Rattle.search.proofs.Follows.{corner-small}
 use Rattle.query.proofs.answering.search_answer.Statement.{statement}
 use Rattle.query.proofs.answering.search_answer.Tie as tie
-use Rattle.query.proofs.answering.search_answer.Reads as reads
-use Rattle.query.proofs.answering.search_answer.Lts as lts
-use Rattle.query.proofs.answering.retrace.Reads as retrace-reads
-use Rattle.query.proofs.preparing.prepare.Reads as prepare-reads
-use Rattle.query.proofs.refusing.zero_first.Reads as zero-first-reads
-use Rattle.search.proofs.get.Reads as get-reads
-use Rattle.search.proofs.run.Reads as run-reads
 
 add-zero-first : tie.Need-add-zero-first
 add-zero-first c = search needs
@@ -33,58 +27,76 @@ prepare-requires c κs =
     let long = ap length z ∙ zeroed-length (s .args .work .now) _ (s .pre .room) in
     (still-searchable (s .pre) _ long, cleared-empty _ (s .args .work .now) _ (s .pre .room) z)
 
+slice-aggregate-index-corners : tie.Need-slice-aggregate-index-corners
+slice-aggregate-index-corners c = search needs
+
+index-corners-requires : tie.Need-index-corners-requires
+index-corners-requires c κs =
+    let s = c .before .before .before .before .before .before .before .before .before .before .before .before .before .before .before .before in
+    let z = c .before .before .before .before .before .before .before .zero-first .ensures in
+    let long = ap length z ∙ zeroed-length (s .args .work .now) _ (s .pre .room) in
+    let p = c .before .before .before .prepare .ensures in
+    let ready = search-ready (s .pre) long p in
+    (ready .fair .ascending, (omega (arith, ready .fair .corners, ready .fair .few), (corner-small ready, omega arith)))
+
 add-places : tie.Need-add-places
 add-places c = search needs
 
+slice-aggregate-run : tie.Need-slice-aggregate-run
+slice-aggregate-run c = search needs
+
 run-requires : tie.Need-run-requires
 run-requires c κs =
-    let s = c .before .before .before .before .before .before .before .before .before .before .before .before .before .before .before .before .before in
-    let z = c .before .before .before .before .before .before .before .before .zero-first .ensures in
-    let long = ap length z ∙ zeroed-length (s .args .work .now) _ (s .pre .room) in
-    let p = c .before .before .before .before .prepare .ensures in
-    (search-ready (s .pre) long p, (p .blank, search-bounded (s .pre) long p))
-
-get-requires : tie.Need-get-requires
-get-requires c κs =
     let s = c .before .before .before .before .before .before .before .before .before .before .before .before .before .before .before .before .before .before .before .before .before in
     let z = c .before .before .before .before .before .before .before .before .before .before .before .before .zero-first .ensures in
     let long = ap length z ∙ zeroed-length (s .args .work .now) _ (s .pre .room) in
-    goal-read (s .pre) long (c .before .before .before .before .before .before .before .before .prepare .ensures) (c .before .before .before .run .ensures)
+    let p = c .before .before .before .before .before .before .before .before .prepare .ensures in
+    (search-ready (s .pre) long p, (p .blank, (search-bounded (s .pre) long p, c .before .before .before .before .index-corners .ensures .0)))
 
-retrace-requires : tie.Need-retrace-requires
-retrace-requires c κs =
+get-requires : tie.Need-get-requires
+get-requires c κs =
     let s = c .before .before .before .before .before .before .before .before .before .before .before .before .before .before .before .before .before .before .before .before .before .before .before .before .before in
     let z = c .before .before .before .before .before .before .before .before .before .before .before .before .before .before .before .before .zero-first .ensures in
     let long = ap length z ∙ zeroed-length (s .args .work .now) _ (s .pre .room) in
-    let p = c .before .before .before .before .before .before .before .before .before .before .before .before .prepare .ensures in
-    let r = c .before .before .before .before .before .before .before .run .ensures in
-    let g = subst (λ (x : ℕ). 0 < x) (c .before .before .before .get .ensures) (c .before .before .if1 .taken) in
-    ((_, goal-walked (s .pre) long p r g), few-settled (s .pre) long p r)
+    goal-read (s .pre) long (c .before .before .before .before .before .before .before .before .before .before .before .before .prepare .ensures) (c .before .before .before .run .ensures)
 
-cast-t34 : tie.Need-cast-t34
-cast-t34 c = search needs
+slice-aggregate-retrace : tie.Need-slice-aggregate-retrace
+slice-aggregate-retrace c = search needs
+
+retrace-requires : tie.Need-retrace-requires
+retrace-requires c κs =
+    let s = c .before .before .before .before .before .before .before .before .before .before .before .before .before .before .before .before .before .before .before .before .before .before .before .before .before .before .before .before .before .before in
+    let z = c .before .before .before .before .before .before .before .before .before .before .before .before .before .before .before .before .before .before .before .before .before .zero-first .ensures in
+    let long = ap length z ∙ zeroed-length (s .args .work .now) _ (s .pre .room) in
+    let p = c .before .before .before .before .before .before .before .before .before .before .before .before .before .before .before .before .before .prepare .ensures in
+    let r = c .before .before .before .before .before .before .before .before .run .ensures in
+    let g = subst (λ (x : ℕ). 0 < x) (c .before .before .before .before .get .ensures) (c .before .before .before .if1 .taken) in
+    ((_, goal-walked (s .pre) long p r g), (few-settled (s .pre) long p r, c .before .before .before .before .before .before .before .before .before .before .before .before .before .index-corners .ensures .0))
+
+cast-t41 : tie.Need-cast-t41
+cast-t41 c = search needs
 
 same-length : tie.Need-same-length
 same-length c = search needs
 
 same-length-2 : tie.Need-same-length-2
 same-length-2 c =
-    let s = c .before .before .before .before .before .before .before .before .before .before .before .before .before .before .before .before .before .before .before .before .before .before .before .before .before .before .before .before .before .before in
-    let z = c .before .before .before .before .before .before .before .before .before .before .before .before .before .before .before .before .before .before .before .before .before .zero-first .ensures in
+    let s = c .before .before .before .before .before .before .before .before .before .before .before .before .before .before .before .before .before .before .before .before .before .before .before .before .before .before .before .before .before .before .before .before .before .before .before in
+    let z = c .before .before .before .before .before .before .before .before .before .before .before .before .before .before .before .before .before .before .before .before .before .before .before .before .before .before .zero-first .ensures in
     let long = ap length z ∙ zeroed-length (s .args .work .now) _ (s .pre .room) in
-    let p = c .before .before .before .before .before .before .before .before .before .before .before .before .before .before .before .before .before .prepare .ensures in
-    let r = c .before .before .before .before .before .before .before .before .before .before .before .before .run .ensures in
+    let p = c .before .before .before .before .before .before .before .before .before .before .before .before .before .before .before .before .before .before .before .before .before .before .prepare .ensures in
+    let r = c .before .before .before .before .before .before .before .before .before .before .before .before .before .run .ensures in
     let o = c .before .before .before .before .retrace .ensures .1 in
     found-beyond (s .pre) long p r z o .sized
 
 returns : tie.Need-returns
 returns c =
-    let s = c .before .before .before .before .before .before .before .before .before .before .before .before .before .before .before .before .before .before .before .before .before .before .before .before .before .before .before .before .before .before in
-    let z = c .before .before .before .before .before .before .before .before .before .before .before .before .before .before .before .before .before .before .before .before .before .zero-first .ensures in
+    let s = c .before .before .before .before .before .before .before .before .before .before .before .before .before .before .before .before .before .before .before .before .before .before .before .before .before .before .before .before .before .before .before .before .before .before .before in
+    let z = c .before .before .before .before .before .before .before .before .before .before .before .before .before .before .before .before .before .before .before .before .before .before .before .before .before .before .zero-first .ensures in
     let long = ap length z ∙ zeroed-length (s .args .work .now) _ (s .pre .room) in
-    let p = c .before .before .before .before .before .before .before .before .before .before .before .before .before .before .before .before .before .prepare .ensures in
-    let r = c .before .before .before .before .before .before .before .before .before .before .before .before .run .ensures in
-    let g = subst (λ (x : ℕ). 0 < x) (c .before .before .before .before .before .before .before .before .get .ensures) (c .before .before .before .before .before .before .before .if1 .taken) in
+    let p = c .before .before .before .before .before .before .before .before .before .before .before .before .before .before .before .before .before .before .before .before .before .before .prepare .ensures in
+    let r = c .before .before .before .before .before .before .before .before .before .before .before .before .before .run .ensures in
+    let g = subst (λ (x : ℕ). 0 < x) (c .before .before .before .before .before .before .before .before .before .get .ensures) (c .before .before .before .before .before .before .before .before .if1 .taken) in
     let e = c .before .before .before .before .retrace .ensures in
     (answer-found (s .pre) long p r g (e .0 _ (goal-walked (s .pre) long p r g)), found-beyond (s .pre) long p r z (e .1))
 
@@ -93,10 +105,10 @@ same-length-3 c = search needs
 
 returns-2 : tie.Need-returns-2
 returns-2 c =
-    let s = c .before .before .before .before .before .before .before .before .before .before .before .before .before .before .before .before .before .before .before .before .before .before .before in
-    let z = c .before .before .before .before .before .before .before .before .before .before .before .before .before .before .zero-first .ensures in
+    let s = c .before .before .before .before .before .before .before .before .before .before .before .before .before .before .before .before .before .before .before .before .before .before .before .before .before .before .before in
+    let z = c .before .before .before .before .before .before .before .before .before .before .before .before .before .before .before .before .before .before .zero-first .ensures in
     let long = ap length z ∙ zeroed-length (s .args .work .now) _ (s .pre .room) in
-    let p = c .before .before .before .before .before .before .before .before .before .before .prepare .ensures in
+    let p = c .before .before .before .before .before .before .before .before .before .before .before .before .before .before .prepare .ensures in
     let r = c .before .before .before .before .before .run .ensures in
     let l = subst (λ (x : ℕ). x ≤ 0) (c .before .get .ensures) (omega (arith, c .if1 .left)) in
     (inr (record { code = refl; straight = refl; diagonal = refl; cells = refl; billed = lost-effort (s .pre) long p r l; kept = refl }), lost-beyond (s .pre) long p r z)
@@ -109,11 +121,15 @@ search-answer-spec =
     mul-zero-first
     zero-first-requires
     prepare-requires
+    slice-aggregate-index-corners
+    index-corners-requires
     add-places
+    slice-aggregate-run
     run-requires
     get-requires
+    slice-aggregate-retrace
     retrace-requires
-    cast-t34
+    cast-t41
     same-length
     same-length-2
     returns
