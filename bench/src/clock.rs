@@ -1,35 +1,18 @@
-//! Times that are only ever divided by one another. What is compared runs in turn, round after round, and of the times
-//! of one task the middle one counts. It is the processor's time of this thread, so that what else the machine does
-//! counts for little.
+//! Times that are only ever divided by one another. What is compared runs in turn, round after round.
 use std::mem::ManuallyDrop;
 use std::ptr::read_volatile;
-
-#[repr(C)]
-struct Timespec {
-    seconds: i64,
-    nanoseconds: i64,
-}
-
-extern "C" {
-    fn clock_gettime(clock: i32, time: *mut Timespec) -> i32;
-}
-
-/// Linux's number for the processor's time of the calling thread.
-const THREAD: i32 = 3;
-
-fn now() -> f64 {
-    let mut time = Timespec { seconds: 0, nanoseconds: 0 };
-    // The call writes one record, which is lent to it.
-    let failed = unsafe { clock_gettime(THREAD, &mut time) };
-    assert_eq!(failed, 0, "no clock");
-    time.seconds as f64 + time.nanoseconds as f64 * 1e-9
-}
+use std::time::Instant;
 
 /// How long a task takes.
 pub fn time(task: impl FnOnce()) -> f64 {
-    let begun = now();
+    let begun = Instant::now();
     task();
-    now() - begun
+    begun.elapsed().as_secs_f64()
+}
+
+/// The least time of a task so far. The task is the same each time, and what else the machine does only makes it longer.
+pub fn lower<T>(least: &mut f64, task: impl FnOnce() -> T) {
+    *least = least.min(time(|| drop(veiled(task()))));
 }
 
 /// A value as it is, of which the compiler knows nothing any more. The standard library's `black_box` is younger than the

@@ -27,6 +27,16 @@ fn main() {
     if std::env::var_os("AZEBIMORU_EMULATED").is_some() {
         println!("All of it runs in an emulator: the ratios are those of emulated code, and no aim is judged by them.\n");
     }
-    plans::report();
-    queries::report();
+    match std::env::args().nth(1).as_deref() {
+        None => {
+            plans::report();
+            queries::report();
+        }
+        Some("plans") => plans::report(),
+        Some("queries") => queries::report(),
+        Some(other) => {
+            eprintln!("usage: azebimoru-bench [plans|queries], not {other}");
+            std::process::exit(2);
+        }
+    }
 }

@@ -1,6 +1,6 @@
 //! One query beside independent searches: over the cells, toward the goal, over the cells by a table, and over links.
 use crate::chance::Chance;
-use crate::clock::{self, median};
+use crate::clock;
 use crate::floors::{self, Kind};
 use crate::lent::Lent;
 use crate::rivals::cells::CellSearch;
@@ -14,10 +14,10 @@ const KINDS: [(&str, Kind, &str); 3] = [
     ("pillars on 3 percent", Kind::Pillars(3), "2"),
 ];
 
-/// Queries on each floor; so many of them are timed at once, and so often.
+/// Queries on each floor; so many of them are answered by one before the next has its turn, and so often.
 const QUERIES: usize = 2_000;
 const BATCH: usize = 25;
-const ROUNDS: usize = 3;
+const ROUNDS: usize = 7;
 
 /// A floor with all who answer queries on it.
 struct Site {
@@ -38,7 +38,13 @@ impl Site {
                 surveyor.survey(lent.w, lent.h, &lent.words);
                 let cells = CellSearch::of(&surveyor.grid);
                 let tabled = CellSearch::tabled(&surveyor.grid);
-                return Site { lent, cells, tabled, links: LinkSearch::of(surveyor), free: floor.free_cells() };
+                return Site {
+                    lent,
+                    cells,
+                    tabled,
+                    links: LinkSearch::of(surveyor),
+                    free: floor.free_cells(),
+                };
             }
         }
     }
@@ -57,25 +63,30 @@ impl Site {
 
     /// The times for a batch: of the queries, of their part after the checks, and of the four searches. A query checks
     /// the plan each time, which takes longer than all the rest. So next to each query stands the same one with a work
-    /// entry too few, which ends after the checks, and the difference is the rest.
+    /// entry too few, which ends after the checks, and the difference is the rest. Of the times of one query the least
+    /// counts: a hundredth of the checks would be a tenth of what is left.
     fn race(&mut self, batch: &[(usize, usize)]) -> [f64; 6] {
-        let mut times = vec![Vec::new(); 6];
+        let mut least = vec![[f64::MAX; 6]; batch.len()];
         for _ in 0..ROUNDS {
-            let (mut whole, mut checks) = (0.0, 0.0);
-            for query in batch.chunks(1) {
-                whole += clock::time(|| clock::each(query, |(s, g)| self.lent.query(s, g)));
-                checks += clock::time(|| clock::each(query, |(s, g)| self.lent.checks(s, g)));
+            for (&(s, g), least) in batch.iter().zip(&mut least) {
+                clock::lower(&mut least[0], || self.lent.query(s, g));
+                clock::lower(&mut least[1], || self.lent.checks(s, g));
             }
-            let nearest = clock::time(|| clock::each(batch, |(s, g)| self.cells.nearest_first(s, g)));
-            let toward = clock::time(|| clock::each(batch, |(s, g)| self.cells.toward_goal(s, g)));
-            let tabled = clock::time(|| clock::each(batch, |(s, g)| self.tabled.nearest_first(s, g)));
-            let links = clock::time(|| clock::each(batch, |(s, g)| self.links.query(s, g)));
-            let all = [whole, whole - checks, nearest, toward, tabled, links];
-            for (times, time) in times.iter_mut().zip(all) {
-                times.push(time);
+            for (&(s, g), least) in batch.iter().zip(&mut least) {
+                clock::lower(&mut least[2], || self.cells.nearest_first(s, g));
+            }
+            for (&(s, g), least) in batch.iter().zip(&mut least) {
+                clock::lower(&mut least[3], || self.cells.toward_goal(s, g));
+            }
+            for (&(s, g), least) in batch.iter().zip(&mut least) {
+                clock::lower(&mut least[4], || self.tabled.nearest_first(s, g));
+            }
+            for (&(s, g), least) in batch.iter().zip(&mut least) {
+                clock::lower(&mut least[5], || self.links.query(s, g));
             }
         }
-        std::array::from_fn(|at| median(&times[at]))
+        let sum = |at: usize| least.iter().map(|times| times[at]).sum::<f64>();
+        [sum(0), sum(0) - sum(1), sum(2), sum(3), sum(4), sum(5)]
     }
 }
 
