@@ -25,9 +25,12 @@ if $host_is_arm; then
     CARGO_TARGET="--target x86_64-unknown-linux-gnu"
     CC=x86_64-linux-gnu-gcc
     RUN="$AZEBIMORU_RUNNER"
+    # Threads that wait for one another are what an emulator is most likely to get wrong.
+    ONE_BY_ONE="-- --test-threads=1"
 else
     CARGO=cargo
     CARGO_TARGET=
     CC=cc
     RUN=
+    ONE_BY_ONE=
 fi
