@@ -6,7 +6,7 @@ use native.Mathlib.Nat.{zero-add}
 use native.Mathlib.Omega.{arith}
 use lib.ListN.{length, take, drop, length-drop}
 use lib.Seq.{take-all, drop-length, drop-drop}
-use Rattle.listing.specs.Answers.{putAt, Put}
+use Rattle.writing.specs.Answers.{putAt, Put}
 
 module _ (o y : List ℕ) (a k r : ℕ) (bytes : List ℕ) (e : k ≡ length o - a) (p : Put (take k (drop a o)) y 0 r bytes) where
   -- nothing follows the part

@@ -30,12 +30,12 @@ use Rattle.query.specs.declared.Answer.{Answer}
 use Rattle.query.specs.Query.{Asked, Shut, startCell, goalCell, workSize, Distance, WalkFound, NoRoute, QueryOutcome}
 use Rattle.query.proofs.Outcome.{codes, code-kind, found-same, no-route-same}
 use Rattle.query.proofs.Passed.{passed, trip-passed}
-use Rattle.listing.specs.Lines.{At, TwoLine}
-use Rattle.listing.specs.Maps.{RowAt, rowPlace, Filled, freeLetter}
-use Rattle.listing.specs.Answers.{surveyRefused, inputRefused, routeCells}
-use Rattle.listing.proofs.Lines.{pair-once, four-once, four-inside}
-use Rattle.listing.proofs.Fills.{row-word}
-use Rattle.listing.proofs.Unique.{words-unique}
+use Rattle.reading.specs.Lines.{At, TwoLine}
+use Rattle.reading.specs.Maps.{RowAt, rowPlace, Filled, freeLetter}
+use Rattle.writing.specs.Answers.{surveyRefused, inputRefused, routeCells}
+use Rattle.reading.proofs.Lines.{pair-once, four-once, four-inside}
+use Rattle.reading.proofs.Fills.{row-word}
+use Rattle.reading.proofs.Unique.{words-unique}
 use Rattle.floorwalk.specs.Replies.{Ground, Walkable, asked, routePart, numbersOf, replyLine, TripReply, LineReply}
 use Rattle.floorwalk.specs.Openings.{SizesAt, MapAt, BadRow, Largest, BadFloor, TurnedAway, no-sizes, bad-sizes, bad-row, bad-floor, OpenFloor, groundLine}
 use Rattle.floorwalk.specs.Listing.{Passed, none, one-more, Ending, over, unfit, past, Listing, refused, walked}

@@ -6,9 +6,9 @@ use mathlib.Core.Logic.{_⊎_, inl, inr, ⊎-elim}
 use mathlib.Core.Path.{_≡_, refl, sym, ap, subst, _∙_}
 use native.Mathlib.Omega.{arith}
 use lib.ListN.{length}
-use Rattle.listing.specs.Answers.{Put, inputRefused}
-use Rattle.listing.proofs.Lines.{four-inside}
-use Rattle.listing.proofs.Puts.{put-none, put-then, put-same}
+use Rattle.writing.specs.Answers.{Put, inputRefused}
+use Rattle.reading.proofs.Lines.{four-inside}
+use Rattle.writing.proofs.Puts.{put-none, put-then, put-same}
 use Rattle.floorwalk.specs.Replies.{Ground, NoTrip, Begins, spotOf, AnsweredAt, RefusedAt, RepliedTo}
 use Rattle.floorwalk.specs.Listing.{Passed, none, one-more, Ending, unfit, LineLeft, PieceRoom, FinishedTo, PieceMade}
 use Rattle.floorwalk.specs.declared.replying.Spot.{Spot}

@@ -6,8 +6,8 @@ use native.Mathlib.Omega.{arith}
 use lib.ListN.{length, getD, take}
 use lib.Seq.{getD-take, length-take-le}
 use Rattle.query.specs.declared.Answer.{Answer}
-use Rattle.listing.specs.Answers.{answerNumbers, routeCells}
-use Rattle.listing.proofs.Puts.{digits-64, answer-length, route-length}
+use Rattle.writing.specs.Answers.{answerNumbers, routeCells}
+use Rattle.writing.proofs.Puts.{digits-64, answer-length, route-length}
 use Rattle.floorwalk.specs.Replies.{figureIn, numbersOf, routePart, replyLine, Printable}
 
 -- the numbers of an answer fit 32 bits

@@ -13,8 +13,8 @@ use Rattle.marks.specs.Lists.{written}
 use Rattle.plan.specs.Plan.{Lists, PlanOf}
 use Rattle.plan.specs.Survey.{lentRows, lastRow, Done, SurveyOutcome}
 use Rattle.plan.specs.declared.Surveyed.{Surveyed}
-use Rattle.listing.specs.Answers.{Put, floorLine, surveyRefused, inputRefused}
-use Rattle.listing.proofs.Puts.{digits-64, floor-length, survey-length, input-length}
+use Rattle.writing.specs.Answers.{Put, floorLine, surveyRefused, inputRefused}
+use Rattle.writing.proofs.Puts.{digits-64, floor-length, survey-length, input-length}
 use Rattle.floorwalk.specs.Openings.{MapAt, Largest, bad-floor, cutPlan, SiteOpen, OpenedTo, FloorPut, FloorOpened}
 use Rattle.floorwalk.specs.declared.opening.Opened.{Opened}
 use Rattle.floorwalk.specs.declared.opening.Opened.the-variants as opening

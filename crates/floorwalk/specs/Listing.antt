@@ -6,7 +6,7 @@ use mathlib.Core.List.{List, [], _++_}
 use mathlib.Core.Logic.{_⊎_}
 use mathlib.Core.Path.{_≡_}
 use lib.ListN.{length}
-use Rattle.listing.specs.Answers.{Put, inputRefused}
+use Rattle.writing.specs.Answers.{Put, inputRefused}
 use Rattle.floorwalk.specs.Replies.{Ground, LineReply, NoTrip, spotOf}
 use Rattle.floorwalk.specs.Openings.{TurnedAway, OpenFloor, groundLine}
 use Rattle.floorwalk.specs.declared.replying.Spot.{Spot}

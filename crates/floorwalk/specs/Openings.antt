@@ -7,9 +7,9 @@ use Rattle.floor.specs.Words.{rowWords, freeCells, SizeRefused, Floor}
 use Rattle.plan.specs.Plan.{Lists, PlanOf}
 use Rattle.plan.specs.Survey.{lists, SurveyOutcome}
 use Rattle.plan.specs.declared.Surveyed.{Surveyed}
-use Rattle.listing.specs.Lines.{At, TwoLine}
-use Rattle.listing.specs.Maps.{RowAt, rowPlace, Filled}
-use Rattle.listing.specs.Answers.{Put, floorLine, surveyRefused, inputRefused}
+use Rattle.reading.specs.Lines.{At, TwoLine}
+use Rattle.reading.specs.Maps.{RowAt, rowPlace, Filled}
+use Rattle.writing.specs.Answers.{Put, floorLine, surveyRefused, inputRefused}
 use Rattle.floorwalk.specs.Replies.{Ground, Walkable}
 use Rattle.floorwalk.specs.declared.opening.Opened.{Opened}
 use Rattle.floorwalk.specs.declared.opening.Opened.the-variants as opened

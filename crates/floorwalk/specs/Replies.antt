@@ -11,8 +11,8 @@ use Rattle.plan.specs.Plan.{Lists, Fits}
 use Rattle.plan.specs.Survey.{lists}
 use Rattle.query.specs.declared.Answer.{Answer}
 use Rattle.query.specs.Query.{Asked, QueryOutcome}
-use Rattle.listing.specs.Lines.{At, FourLine}
-use Rattle.listing.specs.Answers.{Put, answerNumbers, routeCells, inputRefused}
+use Rattle.reading.specs.Lines.{At, FourLine}
+use Rattle.writing.specs.Answers.{Put, answerNumbers, routeCells, inputRefused}
 use Rattle.floorwalk.specs.declared.replying.Spot.{Spot}
 
 -- a surveyed floor

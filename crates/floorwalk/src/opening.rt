@@ -3,8 +3,8 @@ ghost use Prim.Native.Nat.{_≤_};
 ghost use lib.ListN.{length};
 ghost use Rattle.plan.specs.Survey.{lists};
 ghost use Rattle.floorwalk.specs.Openings.{SizesAt, MapAt, Largest, Lent, Surveyable, FloorOpened, OpenedTo};
-use listing::Rows;
-use listing::Two;
+use reading::Rows;
+use reading::Two;
 
 // A surveyed floor: its sizes, how many turning points and arcs its plan has, where the text goes on, and how many bytes of output there are.
 pub struct Site {
@@ -39,11 +39,11 @@ fn survey_floor(
 {
     let s = plan::survey(words, w, h, clear, corners, starts, arcs);
     if s.code != 0 {
-        return Opened::Refused(listing::put_survey_refused(out, s.code as u64));
+        return Opened::Refused(writing::put_survey_refused(out, s.code as u64));
     }
     let k = s.corners as u64;
     let m = s.arcs as u64;
-    let used = listing::put_floor(out, w as u64, h as u64, s.free as u64, k, m);
+    let used = writing::put_floor(out, w as u64, h as u64, s.free as u64, k, m);
     Opened::Floor(Site {
         w,
         h,
@@ -70,9 +70,9 @@ fn open_map(
     requires { ⌜ SizesAt (now text) w h from × Lent (now words) (lists (now clear) (now corners) (now starts) (now arcs)) (now out) ⌝ }
     ensures { λ r. ⌜ OpenedTo (now (text .entry)) (now (words .exit)) (lists (now (clear .exit)) (now (corners .exit)) (now (starts .exit)) (now (arcs .exit))) (now (out .entry)) (now (out .exit)) r ⌝ }
 {
-    match listing::read_rows(text, from, w, h, words) {
+    match reading::read_rows(text, from, w, h, words) {
         // The sizes are line 1, so row y is line y + 2.
-        Rows::Bad(y) => Opened::Refused(listing::put_input_refused(out, (y + 2) as u64)),
+        Rows::Bad(y) => Opened::Refused(writing::put_input_refused(out, (y + 2) as u64)),
         Rows::All(next) => {
             let n = h * floor::row_words(w);
             survey_floor(&words[..n], w, h, next, clear, corners, starts, arcs, out)
@@ -93,12 +93,12 @@ pub fn open_site(
     requires { ⌜ Lent (now words) (lists (now clear) (now corners) (now starts) (now arcs)) (now out) ⌝ }
     ensures { λ r. ⌜ OpenedTo (now (text .entry)) (now (words .exit)) (lists (now (clear .exit)) (now (corners .exit)) (now (starts .exit)) (now (arcs .exit))) (now (out .entry)) (now (out .exit)) r ⌝ }
 {
-    let Two::Line(w, h, from) = listing::read_two(text, 0) else {
-        return Opened::Refused(listing::put_input_refused(out, 1));
+    let Two::Line(w, h, from) = reading::read_two(text, 0) else {
+        return Opened::Refused(writing::put_input_refused(out, 1));
     };
     // No row is read of a floor whose sizes the survey refuses.
     if floor::size_refused(w, h) {
-        return Opened::Refused(listing::put_survey_refused(out, 1));
+        return Opened::Refused(writing::put_survey_refused(out, 1));
     }
     open_map(text, from, w, h, words, clear, corners, starts, arcs, out)
 }

@@ -4,10 +4,10 @@ ghost use mathlib.Core.List.{[], _∷_};
 ghost use mathlib.Core.Path.{_≡_};
 ghost use Prim.Native.Nat.{_+_, _<_, _≤_};
 ghost use lib.ListN.{length};
-ghost use Rattle.listing.specs.Answers.{Put, inputRefused};
+ghost use Rattle.writing.specs.Answers.{Put, inputRefused};
 ghost use Rattle.floorwalk.specs.Replies.{ground, Walkable, replyLine, Printable, PutLine, Begins, Room, spotOf, RefusedAt, RepliedTo};
-use listing::Four;
 use query::Answer;
+use reading::Four;
 
 const NEWLINE: u8 = 10;
 
@@ -33,7 +33,7 @@ fn put_reply(out: &mut [u8], a: Answer, route: &[u16]) -> usize
     requires { ⌜ Printable a (now route) × (98432 ≤ length (now out)) ⌝ }
     ensures { λ r. ⌜ PutLine 98432 (now (out .entry)) (now (out .exit)) 0 r (replyLine a (now (route .entry))) ⌝ }
 {
-    let end = listing::put_answer(
+    let end = writing::put_answer(
         out,
         a.code as u64,
         a.straight as u64,
@@ -44,7 +44,7 @@ fn put_reply(out: &mut [u8], a: Answer, route: &[u16]) -> usize
     );
     if a.code == 0 {
         let cells = a.cells as usize;
-        let last = listing::put_route(out, end, &route[..cells]);
+        let last = writing::put_route(out, end, &route[..cells]);
         return put_newline(out, last);
     }
     put_newline(out, end)
@@ -64,7 +64,7 @@ fn refuse_line(out: &mut [u8], at: usize, line: usize) -> usize
     requires { ⌜ at + 64 ≤ length (now out) ⌝ }
     ensures { λ r. ⌜ PutLine 64 (now (out .entry)) (now (out .exit)) at r (inputRefused line) ⌝ }
 {
-    let n = listing::put_input_refused(&mut out[at..], line as u64);
+    let n = writing::put_input_refused(&mut out[at..], line as u64);
     at + n
 }
 
@@ -114,7 +114,7 @@ pub fn reply_to(
     requires { ⌜ Begins (now text) spot × Room (now route) (now work) (now out) (spot .used) ⌝ }
     ensures { λ r. ⌜ RepliedTo (ground w h (now (words .entry)) (now (clear .entry)) (now (corners .entry)) (now (starts .entry)) (now (arcs .entry))) (now (text .entry)) spot (now (out .entry)) (now (out .exit)) r ⌝ }
 {
-    let Four::Line { x, y, u, v, next } = listing::read_four(text, spot.at) else {
+    let Four::Line { x, y, u, v, next } = reading::read_four(text, spot.at) else {
         return refuse(spot, out);
     };
     let a = query::ask(

@@ -8,8 +8,8 @@ use lib.Seq.{length-take-le}
 use denote.Ref.{now}
 use borrow.Author.Needs.{needs}
 use Rattle.floor.proofs.Accepted.{Fits, fits}
-use Rattle.listing.proofs.Lines.{pair-inside}
-use Rattle.listing.proofs.Floors.{few-words, rows-inside}
+use Rattle.reading.proofs.Lines.{pair-inside}
+use Rattle.reading.proofs.Floors.{few-words, rows-inside}
 use Rattle.floorwalk.specs.Replies.{ground, Walkable}
 use Rattle.floorwalk.proofs.Pieces.{begun}
 use Rattle.floorwalk.proofs.write_replies.Statement.{statement}

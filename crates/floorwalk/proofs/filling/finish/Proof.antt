@@ -4,7 +4,7 @@ use mathlib.Core.Logic.{inl, inr}
 use mathlib.Core.Path.{refl}
 use native.Mathlib.Omega.{arith}
 use borrow.Author.Needs.{needs}
-use Rattle.listing.proofs.Puts.{put-none}
+use Rattle.writing.proofs.Puts.{put-none}
 use Rattle.floorwalk.specs.Listing.{past, over}
 use Rattle.floorwalk.proofs.filling.finish.Statement.{statement}
 use Rattle.floorwalk.proofs.filling.finish.Tie as tie

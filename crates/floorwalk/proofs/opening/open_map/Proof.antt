@@ -8,11 +8,11 @@ use denote.Ref.{now}
 use borrow.Author.Needs.{needs}
 use Rattle.floor.specs.Words.{rowWords}
 use Rattle.floor.proofs.Accepted.{Fits, fits}
-use Rattle.listing.specs.Answers.{inputRefused}
-use Rattle.listing.specs.declared.reading.Rows.the-variants.{Bad}
-use Rattle.listing.specs.Maps.{RowsRead}
-use Rattle.listing.proofs.Lines.{pair-inside}
-use Rattle.listing.proofs.Floors.{few-words}
+use Rattle.writing.specs.Answers.{inputRefused}
+use Rattle.reading.specs.declared.Rows.the-variants.{Bad}
+use Rattle.reading.specs.Maps.{RowsRead}
+use Rattle.reading.proofs.Lines.{pair-inside}
+use Rattle.reading.proofs.Floors.{few-words}
 use Rattle.floorwalk.specs.Openings.{MapAt, bad-row}
 use Rattle.floorwalk.proofs.Sites.{input-short, opened}
 use Rattle.floorwalk.proofs.opening.open_map.Statement.{statement}

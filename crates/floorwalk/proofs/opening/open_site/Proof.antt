@@ -3,8 +3,8 @@ use mathlib.Core.Path.{subst}
 use native.Mathlib.Omega.{arith}
 use denote.Ref.{now}
 use borrow.Author.Needs.{needs}
-use Rattle.listing.specs.Answers.{surveyRefused, inputRefused}
-use Rattle.listing.specs.Lines.{TwoRead}
+use Rattle.writing.specs.Answers.{surveyRefused, inputRefused}
+use Rattle.reading.specs.Lines.{TwoRead}
 use Rattle.floorwalk.specs.Openings.{no-sizes, bad-sizes}
 use Rattle.floorwalk.proofs.Sites.{survey-short, input-short}
 use Rattle.floorwalk.proofs.opening.open_site.Statement.{statement}

@@ -6,8 +6,8 @@ use lib.ListN.{length}
 use denote.Ref.{now}
 use borrow.Author.Needs.{needs}
 use Rattle.plan.specs.Survey.{lists}
-use Rattle.listing.specs.Answers.{floorLine, surveyRefused}
-use Rattle.listing.proofs.Puts.{put-same}
+use Rattle.writing.specs.Answers.{floorLine, surveyRefused}
+use Rattle.writing.proofs.Puts.{put-same}
 use Rattle.floorwalk.specs.Openings.{Largest}
 use Rattle.floorwalk.proofs.Sites.{survey-short, floor-short, Planned, planned}
 use Rattle.floorwalk.proofs.opening.survey_floor.Statement.{statement}

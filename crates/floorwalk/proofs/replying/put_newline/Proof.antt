@@ -1,6 +1,6 @@
 -- `floorwalk::replying::put_newline` meets its contract. Assumes nothing.
 use borrow.Author.Needs.{needs}
-use Rattle.listing.proofs.Puts.{put-one}
+use Rattle.writing.proofs.Puts.{put-one}
 use Rattle.floorwalk.proofs.replying.put_newline.Statement.{statement}
 use Rattle.floorwalk.proofs.replying.put_newline.Tie as tie
 

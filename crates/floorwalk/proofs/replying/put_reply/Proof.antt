@@ -7,8 +7,8 @@ use lib.ListN.{length, take, length-append}
 use lib.Seq.{length-take-le}
 use denote.Ref.{now}
 use borrow.Author.Needs.{needs}
-use Rattle.listing.specs.Answers.{routeCells}
-use Rattle.listing.proofs.Puts.{put-then, put-same}
+use Rattle.writing.specs.Answers.{routeCells}
+use Rattle.writing.proofs.Puts.{put-then, put-same}
 use Rattle.floorwalk.proofs.Printing.{Small, Cells, numbersWith, line-zero, line-other, numbers-short, cells-short}
 use Rattle.floorwalk.proofs.replying.put_reply.Statement.{statement}
 use Rattle.floorwalk.proofs.replying.put_reply.Tie as tie

@@ -5,8 +5,8 @@ use mathlib.Core.Path.{refl}
 use native.Mathlib.Omega.{arith}
 use lib.ListN.{length}
 use borrow.Author.Needs.{needs}
-use Rattle.listing.specs.Answers.{inputRefused}
-use Rattle.listing.proofs.Puts.{digits-64, input-length}
+use Rattle.writing.specs.Answers.{inputRefused}
+use Rattle.writing.proofs.Puts.{digits-64, input-length}
 use Rattle.floorwalk.proofs.Buffers.{put-part, part-length}
 use Rattle.floorwalk.proofs.replying.refuse_line.Statement.{statement}
 use Rattle.floorwalk.proofs.replying.refuse_line.Tie as tie

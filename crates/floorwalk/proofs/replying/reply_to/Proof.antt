@@ -4,7 +4,7 @@ use mathlib.Core.Path.{refl, subst}
 use native.Mathlib.Omega.{arith}
 use denote.Ref.{now}
 use borrow.Author.Needs.{needs}
-use Rattle.listing.specs.Lines.{FourRead}
+use Rattle.reading.specs.Lines.{FourRead}
 use Rattle.floorwalk.proofs.Answers.{route-holds}
 use Rattle.floorwalk.proofs.replying.reply_to.Statement.{statement}
 use Rattle.floorwalk.proofs.replying.reply_to.Tie as tie
