@@ -1,8 +1,4 @@
 -- Laws that belong to no one function.
-pub mod Buffers
-pub mod Printing
-pub mod Answers
 pub mod Pieces
-pub mod Sites
 pub mod Whole
 pub mod Only

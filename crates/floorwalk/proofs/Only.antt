@@ -36,9 +36,11 @@ use Rattle.writing.specs.Answers.{surveyRefused, inputRefused, routeCells}
 use Rattle.reading.proofs.Lines.{pair-once, four-once, four-inside}
 use Rattle.reading.proofs.Fills.{row-word}
 use Rattle.reading.proofs.Unique.{words-unique}
-use Rattle.floorwalk.specs.Replies.{Ground, Walkable, asked, routePart, numbersOf, replyLine, TripReply, LineReply}
-use Rattle.floorwalk.specs.Openings.{SizesAt, MapAt, BadRow, Largest, BadFloor, TurnedAway, no-sizes, bad-sizes, bad-row, bad-floor, OpenFloor, groundLine}
-use Rattle.floorwalk.specs.Listing.{Passed, none, one-more, Ending, over, unfit, past, Listing, refused, walked}
+use Rattle.opening.specs.Grounds.{Ground, Walkable}
+use Rattle.replying.specs.Replies.{asked, routePart, numbersOf, replyLine, TripReply, LineReply}
+use Rattle.opening.specs.Openings.{SizesAt, MapAt, BadRow, Largest, BadFloor, TurnedAway, no-sizes, bad-sizes, bad-row, bad-floor, OpenFloor, groundLine}
+use Rattle.replying.specs.Pieces.{Passed, none, one-more, Ending, over, unfit, past}
+use Rattle.floorwalk.specs.Listing.{Listing, refused, walked}
 
 -- ---- the words of a map
 -- the first words of a map are themselves drawn by it, whatever words there were before

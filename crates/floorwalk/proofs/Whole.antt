@@ -3,10 +3,12 @@ use Prim.Native.Nat.{ℕ, _+_}
 use mathlib.Core.Bool.{Bool, true, false}
 use mathlib.Core.List.{List, _++_, append-nil, append-assoc}
 use mathlib.Core.Path.{_≡_, refl, sym, ap, subst, _∙_}
-use Rattle.floorwalk.specs.Replies.{Ground, spotOf}
-use Rattle.floorwalk.specs.Openings.{OpenFloor, groundLine}
-use Rattle.floorwalk.specs.Listing.{Passed, Ending, Listing, walked, PieceMade}
-use Rattle.floorwalk.specs.declared.replying.Spot.{Spot}
+use Rattle.opening.specs.Grounds.{Ground}
+use Rattle.replying.specs.Replies.{spotOf}
+use Rattle.opening.specs.Openings.{OpenFloor, groundLine}
+use Rattle.replying.specs.Pieces.{Passed, Ending, PieceMade}
+use Rattle.floorwalk.specs.Listing.{Listing, walked}
+use Rattle.replying.specs.declared.Spot.{Spot}
 use Rattle.floorwalk.proofs.Pieces.{passed-then}
 
 module _ (g : Ground) (text : List ℕ) (more : Bool) where

@@ -1,4 +1,2 @@
 -- The definitions that the contracts cite.
-pub mod Replies
-pub mod Openings
 pub mod Listing

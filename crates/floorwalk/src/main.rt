@@ -1,25 +1,22 @@
 // floorwalk: reads a floor and trips from standard input, surveys the floor and answers trip by trip.
 //
-// Reading and writing are here. What is written is made by `opening` and `filling`, on slices, where promises can speak of it.
+// Reading and writing are here. What is written is made by the crates `opening` and `replying`, on slices, where promises can speak of it.
 ghost use mathlib.Core.Bool.{false};
 ghost use mathlib.Core.Path.{_≡_};
 ghost use Prim.Native.Nat.{_+_, _<_, _≤_};
 ghost use lib.ListN.{length};
 ghost use Rattle.plan.specs.Survey.{lists};
-ghost use Rattle.floorwalk.specs.Replies.{ground, Walkable, Begins, spotOf};
-ghost use Rattle.floorwalk.specs.Openings.{Kept};
-ghost use Rattle.floorwalk.specs.Listing.{PieceRoom};
-use filling::fill;
+ghost use Rattle.opening.specs.Grounds.{ground, Walkable};
+ghost use Rattle.replying.specs.Replies.{Begins, spotOf};
+ghost use Rattle.opening.specs.Openings.{Kept};
+ghost use Rattle.replying.specs.Pieces.{PieceRoom};
 use libc::STDIN_FILENO;
 use libc::STDOUT_FILENO;
 use opening::Opened;
 use opening::Site;
 use opening::open_site;
 use replying::Spot;
-
-mod filling;
-mod opening;
-mod replying;
+use replying::fill;
 
 // Writes the output so far; the spot has none then.
 fn flush(out: &[u8], spot: Spot) -> Spot

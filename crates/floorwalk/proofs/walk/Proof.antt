@@ -6,7 +6,7 @@ use lib.ListN.{length}
 use lib.Seq.{length-take-le}
 use borrow.Author.Needs.{needs}
 use Rattle.plan.specs.Survey.{lists}
-use Rattle.floorwalk.specs.Openings.{Lent, OpenedTo}
+use Rattle.opening.specs.Openings.{Lent, OpenedTo}
 use Rattle.floorwalk.proofs.walk.Statement.{statement}
 use Rattle.floorwalk.proofs.walk.Tie as tie
 

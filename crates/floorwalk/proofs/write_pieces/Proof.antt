@@ -7,9 +7,10 @@ use native.Mathlib.Omega.{arith}
 use denote.Ref.{now}
 use borrow.Author.Needs.{needs}
 use borrow.Author.Tests.{not-true}
-use Rattle.floorwalk.specs.Replies.{Begins}
-use Rattle.floorwalk.specs.Listing.{PieceRoom}
-use Rattle.floorwalk.proofs.Pieces.{leftOf, piece-less, flushed}
+use Rattle.replying.specs.Replies.{Begins}
+use Rattle.replying.specs.Pieces.{PieceRoom}
+use Rattle.replying.proofs.Pieces.{leftOf}
+use Rattle.floorwalk.proofs.Pieces.{piece-less, flushed}
 use Rattle.floorwalk.proofs.write_pieces.Statement.{statement}
 use Rattle.floorwalk.proofs.write_pieces.Tie as tie
 

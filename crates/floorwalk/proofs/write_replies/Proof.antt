@@ -10,7 +10,7 @@ use borrow.Author.Needs.{needs}
 use Rattle.floor.proofs.Accepted.{Fits, fits}
 use Rattle.reading.proofs.Lines.{pair-inside}
 use Rattle.reading.proofs.Floors.{few-words, rows-inside}
-use Rattle.floorwalk.specs.Replies.{ground, Walkable}
+use Rattle.opening.specs.Grounds.{ground, Walkable}
 use Rattle.floorwalk.proofs.Pieces.{begun}
 use Rattle.floorwalk.proofs.write_replies.Statement.{statement}
 use Rattle.floorwalk.proofs.write_replies.Tie as tie
