@@ -24,11 +24,11 @@ use Rattle.effort.specs.Net.{Precedes, apart as weighs}
 use Rattle.effort.proofs.Weights.{weight-sum, ≼-by-weight}
 use Rattle.effort.proofs.Bridge.{far-small}
 use Rattle.effort.proofs.Before.{no-further, place-before}
-use Rattle.search.specs.Places.{apart}
-use Rattle.search.specs.Chart.{Chart, linkAt, linkCount, cell, net, order}
+use Rattle.places.specs.Places.{apart}
+use Rattle.places.specs.Chart.{Chart, linkAt, linkCount, cell, net, order}
 use Rattle.chain.specs.Route.{Before}
 use Rattle.chain.specs.Charted.{Charted, Used}
-use Rattle.search.proofs.Links.{positive, consistent}
+use Rattle.places.proofs.Links.{positive, consistent}
 use Rattle.chain.proofs.Fairness.{fair}
 use Rattle.chain.proofs.Places.{trip, cell-place, from-used, from-cell, place-index, used-same}
 use Rattle.chain.proofs.Links.{joined-turned, link-there, link-back, link-turned}

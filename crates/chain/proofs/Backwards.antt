@@ -21,14 +21,14 @@ use Rattle.ground.proofs.Walks.{shortest-unique}
 use Rattle.settling.specs.Labels.{SettledAt}
 use Rattle.effort.specs.Effort.{Far}
 use Rattle.effort.proofs.Bridge.{far-few, start-far}
-use Rattle.search.specs.declared.Trip.{Trip}
-use Rattle.search.specs.Columns.{columnOf, Label, Settled, Next, Only, Put}
-use Rattle.search.specs.Places.{cellAt, apart, TwoCells}
-use Rattle.search.specs.Chart.{Chart, chart, linkAt, linkCount, net}
-use Rattle.search.specs.Search.{labelsOf, Ready, Run}
-use Rattle.search.proofs.Columns.{column-length}
+use Rattle.places.specs.declared.Trip.{Trip}
+use Rattle.places.specs.Columns.{columnOf, Label, Settled, Next, Only, Put}
+use Rattle.places.specs.Places.{cellAt, apart, TwoCells}
+use Rattle.places.specs.Chart.{Chart, chart, linkAt, linkCount, net, Ready}
+use Rattle.search.specs.Search.{labelsOf, Run}
+use Rattle.places.proofs.Columns.{column-length}
 use Rattle.search.proofs.Decode.{read-some, some-read}
-use Rattle.search.proofs.Follows.{chart-same, ready-kept}
+use Rattle.places.proofs.Charts.{chart-same, ready-kept}
 use Rattle.chain.specs.Route.{Before, ChainTo}
 use Rattle.chain.specs.Charted.{Charted}
 use Rattle.chain.specs.Chain.{Journey, Walked, labelAt, settledAt, LeadsTo, Lesser, Reached, Prior, LeadsAlong, cellsAt, Linked}

@@ -10,8 +10,8 @@ use Rattle.settling.specs.Chains.{Chain, here, step, Reachable, Shortest}
 use Rattle.effort.specs.Effort.{Far}
 use Rattle.effort.specs.Net.{Joined, netOf, apart as weighs}
 use Rattle.effort.proofs.Bridge.{far-few, far-shortest, shortest-far}
-use Rattle.search.specs.Places.{apart}
-use Rattle.search.specs.Chart.{Chart, cell, net}
+use Rattle.places.specs.Places.{apart}
+use Rattle.places.specs.Chart.{Chart, cell, net}
 use Rattle.search.specs.Search.{Bounded}
 use Rattle.chain.specs.Charted.{Charted, Used}
 use Rattle.chain.proofs.Places.{apart-same, trip, cell-place, from-used, from-cell, place-index, used-same}

@@ -15,8 +15,8 @@ use Rattle.plan.proofs.Pickings.{picked-in, in-picked, select-in, in-select, se
 use Rattle.plan.proofs.Risings.{at-in, rising-later}
 use Rattle.plan.proofs.Parts.{part-in, in-part}
 use Rattle.plan.proofs.Links.{start-in}
-use Rattle.search.specs.Places.{indexOf, Ascending}
-use Rattle.search.proofs.Cells.{index-at}
+use Rattle.places.specs.Places.{indexOf, Ascending}
+use Rattle.places.proofs.Cells.{index-at}
 use Rattle.chain.proofs.Entries.{in-index, between}
 
 module _ {w h : ℕ} {words : List ℕ} {p : Lists} (own : PlanOf w h words p) where

@@ -18,7 +18,7 @@ use Rattle.effort.specs.Effort.{PlaceCell, EffortFound, EffortLost}
 use Rattle.effort.specs.Net.{by-cell, netOf}
 use Rattle.effort.proofs.Bridge.{chain-place, shortest-far, reachable-iff, reachable-far, goal-place}
 use Rattle.effort.proofs.Search.{in-reach-iff}
-use Rattle.search.specs.Chart.{Chart, cell, net, order}
+use Rattle.places.specs.Chart.{Chart, cell, net, order}
 use Rattle.search.specs.Search.{Outcome}
 use Rattle.chain.specs.Charted.{Charted, Used}
 use Rattle.chain.proofs.Counting.{counts-onto}

@@ -10,7 +10,7 @@ use lib.Dec.{eqb}
 use lib.ListN.{length}
 use borrow.Author.Tests.{eqb-false}
 use Rattle.plan.specs.Rising.{In}
-use Rattle.search.specs.Places.{indexOf}
+use Rattle.places.specs.Places.{indexOf}
 
 -- what stands in a list has an index
 pub in-index : (xs : List ℕ) (t : ℕ) → In t xs → indexOf xs t < length xs

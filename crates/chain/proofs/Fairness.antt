@@ -13,8 +13,8 @@ use Rattle.ground.proofs.Logic.{true-or-false}
 use Rattle.plan.specs.Plan.{Lists}
 use Rattle.marks.specs.Marks.{cornerCell}
 use Rattle.plan.proofs.Links.{start-in}
-use Rattle.search.specs.Places.{indexOf, Ascending}
-use Rattle.search.specs.Chart.{Chart, Fair, cell}
+use Rattle.places.specs.Places.{indexOf, Ascending}
+use Rattle.places.specs.Chart.{Chart, Fair, cell}
 use Rattle.chain.specs.Charted.{Charted}
 use Rattle.chain.proofs.Entries.{in-index}
 use Rattle.chain.proofs.Corners.{corners-ascend, neighbour-linked, neighbour-corner}

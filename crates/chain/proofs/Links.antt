@@ -16,10 +16,10 @@ use Rattle.plan.specs.Plan.{Lists, LinkedCells}
 use Rattle.plan.proofs.Risings.{at-in}
 use Rattle.effort.specs.Net.{Joined}
 use Rattle.ground.proofs.Numbers.{same-cell, within}
-use Rattle.search.specs.Places.{indexOf}
-use Rattle.search.specs.Chart.{Chart, flagged, arcsOf, arcs, cornerLink, countOf, linkCount, cell, net}
-use Rattle.search.proofs.Cells.{index-at, index-of-entry}
-use Rattle.search.proofs.Links.{flag-some, corner-arc, corner-start, corner-goal, link-corner, link-start, link-goal, count-end}
+use Rattle.places.specs.Places.{indexOf}
+use Rattle.places.specs.Chart.{Chart, flagged, arcsOf, arcs, cornerLink, countOf, linkCount, cell, net}
+use Rattle.places.proofs.Cells.{index-at, index-of-entry}
+use Rattle.places.proofs.Links.{flag-some, corner-arc, corner-start, corner-goal, link-corner, link-start, link-goal, count-end}
 use Rattle.chain.specs.Charted.{DirectCells, Charted, Used}
 use Rattle.chain.proofs.Entries.{in-index}
 use Rattle.chain.proofs.Corners.{corners-ascend, neighbour-linked, linked-neighbour}

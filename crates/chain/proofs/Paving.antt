@@ -11,9 +11,9 @@ use Rattle.lengths.specs.declared.Length.{Length}
 use Rattle.floor.specs.Words.{placeOf}
 use Rattle.ground.specs.Line.{line}
 use Rattle.marks.specs.Lists.{written}
-use Rattle.search.specs.declared.Trip.{Trip}
-use Rattle.search.specs.Columns.{columnOf, Label, Next}
-use Rattle.search.specs.Places.{cellAt}
+use Rattle.places.specs.declared.Trip.{Trip}
+use Rattle.places.specs.Columns.{columnOf, Label, Next}
+use Rattle.places.specs.Places.{cellAt}
 use Rattle.line.specs.Cells.{after, legs, steps, Cell, LineWritten}
 use Rattle.chain.specs.Route.{RouteOf, cellsOf}
 use Rattle.chain.specs.Chain.{Journey, Walked, LeadsAlong, there, on, cellsAt, Linked, Paved}

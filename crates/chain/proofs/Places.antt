@@ -16,9 +16,9 @@ use Rattle.marks.specs.Marks.{cornerCell}
 use Rattle.effort.specs.Effort.{PlaceCell}
 use Rattle.effort.specs.Net.{Startable, apart as weighs}
 use Rattle.effort.proofs.Bridge.{trip-of, start-place, goal-place}
-use Rattle.search.specs.Places.{indexOf, cellAt, apart}
-use Rattle.search.specs.Chart.{Chart, cell}
-use Rattle.search.proofs.Cells.{index-at, ascending-once}
+use Rattle.places.specs.Places.{indexOf, cellAt, apart}
+use Rattle.places.specs.Chart.{Chart, cell}
+use Rattle.places.proofs.Cells.{index-at, ascending-once}
 use Rattle.chain.specs.Charted.{Charted, Used}
 use Rattle.chain.proofs.Corners.{corners-ascend, corner-at, corner-index}
 

@@ -11,11 +11,11 @@ use Rattle.lengths.specs.declared.Length.{Length}
 use Rattle.plan.specs.Plan.{Lists}
 use Rattle.settling.specs.Labels.{Sound}
 use Rattle.effort.specs.Effort.{Far}
-use Rattle.search.specs.declared.Trip.{Trip}
-use Rattle.search.specs.Columns.{columnOf, Label, Settled, Next}
-use Rattle.search.specs.Places.{cellAt, apart}
-use Rattle.search.specs.Chart.{chart, net, order}
-use Rattle.search.specs.Search.{labelsOf, Ready}
+use Rattle.places.specs.declared.Trip.{Trip}
+use Rattle.places.specs.Columns.{columnOf, Label, Settled, Next}
+use Rattle.places.specs.Places.{cellAt, apart}
+use Rattle.places.specs.Chart.{chart, net, order, Ready}
+use Rattle.search.specs.Search.{labelsOf}
 use Rattle.line.specs.Cells.{legs, Cell}
 use Rattle.chain.specs.Route.{Before, ChainTo}
 use Rattle.chain.specs.Charted.{Charted}

@@ -12,8 +12,8 @@ use Rattle.ground.specs.Kind.{walkers}
 use Rattle.ground.specs.Link.{Direct}
 use Rattle.plan.specs.Plan.{Lists, Fits}
 use Rattle.marks.specs.Marks.{cornerCell}
-use Rattle.search.specs.Places.{indexOf}
-use Rattle.search.specs.Chart.{Chart}
+use Rattle.places.specs.Places.{indexOf}
+use Rattle.places.specs.Chart.{Chart}
 use Rattle.chain.specs.Route.{LineClear}
 
 -- two cells, by number, are joined as Definition 2 says

@@ -10,13 +10,13 @@ ghost use Rattle.floor.specs.Refusals.{Tells};
 ghost use Rattle.floor.specs.Words.{placeOf};
 ghost use Rattle.ground.specs.Kind.{octile};
 ghost use Rattle.marks.specs.Lists.{written};
-ghost use Rattle.search.specs.Columns.{Next, Only};
-ghost use Rattle.search.specs.Places.{Indexed, cellAt, TwoCells};
+ghost use Rattle.places.specs.Columns.{Next, Only};
+ghost use Rattle.places.specs.Places.{Indexed, cellAt, TwoCells};
 ghost use Rattle.search.specs.Tree.{Room};
 ghost use Rattle.line.specs.Cells.{steps, legs, Cell, LineWritten};
 ghost use Rattle.chain.specs.Chain.{Journey, Walked, LeadsTo, Lesser, Reached, Prior, cellsAt, Linked, Paved};
 use lengths::Length;
-use search::Trip;
+use places::Trip;
 
 // A number of 32 bits as an index. Sums of two such do not wrap.
 fn size(x: u32) -> usize
@@ -37,15 +37,15 @@ fn leads_to(corners: &[u16], t: Trip, work: &[u32], v: usize, link: usize) -> bo
         return false;
     }
     let u = link - 1;
-    let settled = search::get(work, t.k + 2, search::SETTLED, u);
+    let settled = places::get(work, t.k + 2, places::SETTLED, u);
     if settled == 0 {
         return false;
     }
-    let near = search::get(work, t.k + 2, search::LABEL, u);
-    let far = search::get(work, t.k + 2, search::LABEL, v);
-    let a = search::cell_of(corners, t, u);
-    let b = search::cell_of(corners, t, v);
-    let leg = search::leg(t.w, a, b);
+    let near = places::get(work, t.k + 2, places::LABEL, u);
+    let far = places::get(work, t.k + 2, places::LABEL, v);
+    let a = places::cell_of(corners, t, u);
+    let b = places::cell_of(corners, t, v);
+    let leg = places::leg(t.w, a, b);
     size(near) + size(leg) == size(far)
 }
 
@@ -58,8 +58,8 @@ fn lesser(corners: &[u16], t: Trip, a: usize, b: usize) -> usize
     if a == 0 {
         return b;
     }
-    let p = search::cell_of(corners, t, a - 1);
-    let q = search::cell_of(corners, t, b - 1);
+    let p = places::cell_of(corners, t, a - 1);
+    let q = places::cell_of(corners, t, b - 1);
     if q < p {
         return b;
     }
@@ -83,11 +83,11 @@ fn place_before(
     requires indexed { ⌜ Indexed (now corners) (now table) ⌝ }
     ensures { λ r. ⌜ ((a : Journey) → Walked a (now (corners .entry)) (now (starts .entry)) (now (neighbours .entry)) t (now (work .entry)) → Prior a (now (corners .entry)) (now (starts .entry)) (now (neighbours .entry)) t (now (work .entry)) v r) ⌝ }
 {
-    let count = search::link_count(starts, t.k, v);
+    let count = places::link_count(starts, t.k, v);
     let mut best: usize = 0;
     let mut j: usize = 0;
     while j < count {
-        let link = search::link_at(corners, starts, neighbours, t, table, work, v, j);
+        let link = places::link_at(corners, starts, neighbours, t, table, work, v, j);
         if leads_to(corners, t, work, v, link) {
             best = lesser(corners, t, best, link);
         }
@@ -103,8 +103,8 @@ fn leg_length(corners: &[u16], t: Trip, u: usize, v: usize) -> Length
     ensures { λ r. ⌜ lenOf r ≡ octile (placeOf (t .w) (cellAt (now (corners .entry)) t u)) (placeOf (t .w) (cellAt (now (corners .entry)) t v)) ⌝ }
 {
     let w = t.w;
-    let a = search::cell_of(corners, t, u);
-    let b = search::cell_of(corners, t, v);
+    let a = places::cell_of(corners, t, u);
+    let b = places::cell_of(corners, t, v);
     line::line_length(a % w, a / w, b % w, b / w)
 }
 
@@ -131,7 +131,7 @@ pub fn link_back(
         let leg = leg_length(corners, t, u, v);
         straight += leg.straight;
         diagonal += leg.diagonal;
-        search::put(work, t.k + 2, search::NEXT, u, v as u32 + 1);
+        places::put(work, t.k + 2, places::NEXT, u, v as u32 + 1);
         v = u;
     }
     Length {
@@ -149,8 +149,8 @@ fn write_leg(corners: &[u16], t: Trip, v: usize, u: usize, route: &mut [u16], fr
     ensures { λ r. ⌜ LineWritten (t .w) (placeOf (t .w) (cellAt (now (corners .entry)) t v)) (placeOf (t .w) (cellAt (now (corners .entry)) t u)) (now (route .entry)) from r (now (route .exit)) ⌝ }
 {
     let w = t.w;
-    let a = search::cell_of(corners, t, v);
-    let b = search::cell_of(corners, t, u);
+    let a = places::cell_of(corners, t, v);
+    let b = places::cell_of(corners, t, u);
     line::write_line(w, a % w, a / w, b % w, b / w, route, from)
 }
 
@@ -164,7 +164,7 @@ pub fn write_route(corners: &[u16], t: Trip, work: &[u32], route: &mut [u16])
     let mut next: usize = 1;
     let mut v = t.from;
     while v != to {
-        let u = size(search::get(work, t.k + 2, search::NEXT, v)) - 1;
+        let u = size(places::get(work, t.k + 2, places::NEXT, v)) - 1;
         next = write_leg(corners, t, v, u, route, next);
         v = u;
     }

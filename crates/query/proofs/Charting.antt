@@ -16,18 +16,18 @@ use Rattle.marks.specs.Marks.{cornerCell}
 use Rattle.fields.specs.Fields.{Seen}
 use Rattle.ground.proofs.Numbers.{same-cell}
 use Rattle.plan.proofs.Linked.{shown-direct, direct-shown}
-use Rattle.search.specs.Columns.{columnOf, ByStart, ByGoal, Label, Tree, Settled}
-use Rattle.search.specs.Places.{indexOf, Ascending}
-use Rattle.search.specs.Chart.{chart}
-use Rattle.search.specs.declared.Trip.{Trip}
+use Rattle.places.specs.Columns.{columnOf, ByStart, ByGoal, Label, Tree, Settled}
+use Rattle.places.specs.Places.{indexOf, Ascending}
+use Rattle.places.specs.Chart.{chart}
+use Rattle.places.specs.declared.Trip.{Trip}
 use Rattle.query.specs.Flags.{Flag, Flaggable, Flagging, AllFlagged}
 use Rattle.query.specs.Answers.{Searchable}
 use Rattle.chain.specs.Charted.{Charted, DirectCells}
 use Rattle.query.specs.Prepared.{Empty, EndFlags, Prepared}
 use Rattle.query.specs.Trips.{TripOf}
 use Rattle.chain.proofs.Corners.{corners-ascend, corner-at, corner-index, index-corner, index-none}
-use Rattle.search.proofs.Cells.{index-of-entry, index-most}
-use Rattle.search.proofs.Columns.{only-same}
+use Rattle.places.proofs.Cells.{index-of-entry, index-most}
+use Rattle.places.proofs.Columns.{only-same}
 
 -- ---- the flags of one end
 module _ (w h : ℕ) (words corners : List ℕ) (cell n c : ℕ) (W : List ℕ) (empty : Empty n c W) where

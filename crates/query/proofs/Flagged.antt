@@ -11,11 +11,11 @@ use Rattle.fields.specs.Fields.{Seen}
 use Rattle.plan.specs.Linking.{OneLinked}
 use Rattle.plan.specs.declared.Filled.the-variants.{To}
 use Rattle.plan.proofs.Parts.{part-in, in-part}
-use Rattle.search.specs.Columns.{columnOf, Only, Put}
-use Rattle.search.specs.Places.{indexOf}
-use Rattle.search.proofs.Columns.{column-length, only-same, only-trans}
+use Rattle.places.specs.Columns.{columnOf, Only, Put}
+use Rattle.places.specs.Places.{indexOf}
+use Rattle.places.proofs.Columns.{column-length, only-same, only-trans}
 use Rattle.query.specs.Flags.{Among, Flag, FlagRoom, Flagging}
-use Rattle.search.proofs.Cells.{index-at}
+use Rattle.places.proofs.Cells.{index-at}
 
 -- the room stays as it was
 pub same-room : {corners : List ℕ} {n c : ℕ} {W W′ : List ℕ} → FlagRoom corners n c W → Only n W c W′ → FlagRoom corners n c W′

@@ -8,8 +8,8 @@ use lib.ListN.{length}
 use Rattle.lengths.specs.Lengths.{lenOf}
 use Rattle.lengths.specs.declared.Length.{Length}
 use Rattle.marks.specs.Lists.{written}
-use Rattle.search.specs.declared.Trip.{Trip}
-use Rattle.search.specs.Columns.{Next, Only}
+use Rattle.places.specs.declared.Trip.{Trip}
+use Rattle.places.specs.Columns.{Next, Only}
 use Rattle.line.specs.Cells.{legs}
 use Rattle.chain.specs.Chain.{Journey, Walked, cellsAt, Linked, Paved}
 use Rattle.query.specs.Answers.{Told, Retraced}

@@ -11,11 +11,11 @@ use lib.ListN.{length, getD, drop, replicate, length-replicate, List·getD-eq-de
 use Rattle.marks.specs.Lists.{written}
 use Rattle.plan.specs.Plan.{Lists}
 use Rattle.effort.specs.Effort.{EffortFound, EffortLost}
-use Rattle.search.specs.declared.Trip.{Trip}
-use Rattle.search.specs.Columns.{columnOf, Settled, Next, Only, Inside}
-use Rattle.search.specs.Chart.{chart}
-use Rattle.search.specs.Search.{labelsOf, Ready, Bounded, Run}
-use Rattle.search.proofs.Columns.{entry-inside, column-length, column-at}
+use Rattle.places.specs.declared.Trip.{Trip}
+use Rattle.places.specs.Columns.{columnOf, Settled, Next, Only, Inside}
+use Rattle.places.specs.Chart.{chart, Ready}
+use Rattle.search.specs.Search.{labelsOf, Bounded, Run}
+use Rattle.places.proofs.Columns.{entry-inside, column-length, column-at}
 use Rattle.chain.specs.Chain.{Journey, Walked}
 use Rattle.query.specs.Prepared.{Empty, Prepared}
 use Rattle.query.specs.Answers.{Searchable, SearchAnswer, Retraced, Beyond}

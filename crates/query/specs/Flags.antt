@@ -6,8 +6,8 @@ use mathlib.Core.Path.{_≡_}
 use lib.ListN.{length, getD}
 use Rattle.marks.specs.Marks.{cornerCells}
 use Rattle.fields.specs.Fields.{Seen, Sweepable}
-use Rattle.search.specs.Columns.{columnOf, Only}
-use Rattle.search.specs.Places.{indexOf, Ascending}
+use Rattle.places.specs.Columns.{columnOf, Only}
+use Rattle.places.specs.Places.{indexOf, Ascending}
 
 -- corner i has its flag in column c of a work space whose columns have n entries
 abbrev pub Flag : ℕ → ℕ → List ℕ → ℕ → Type 0

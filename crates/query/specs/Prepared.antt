@@ -8,10 +8,10 @@ use lib.ListN.{length, getD, drop}
 use Rattle.fields.specs.Fields.{Seen}
 use Rattle.marks.specs.Marks.{cornerCell}
 use Rattle.plan.specs.Plan.{Lists}
-use Rattle.search.specs.Columns.{columnOf, Only}
-use Rattle.search.specs.Chart.{chart}
+use Rattle.places.specs.Columns.{columnOf, Only}
+use Rattle.places.specs.Chart.{chart}
 use Rattle.search.specs.Search.{Blank}
-use Rattle.search.specs.declared.Trip.{Trip}
+use Rattle.places.specs.declared.Trip.{Trip}
 use Rattle.query.specs.Flags.{Flag}
 use Rattle.chain.specs.Charted.{Charted}
 

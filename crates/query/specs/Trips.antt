@@ -3,8 +3,8 @@ use Prim.Native.Nat.{ℕ, _+_, _<_}
 use mathlib.Core.List.{List}
 use mathlib.Core.Path.{_≡_}
 use lib.ListN.{length}
-use Rattle.search.specs.Places.{indexOf}
-use Rattle.search.specs.declared.Trip.{Trip}
+use Rattle.places.specs.Places.{indexOf}
+use Rattle.places.specs.declared.Trip.{Trip}
 
 pub record TripOf (w : ℕ) (corners : List ℕ) (start goal : ℕ) (t : Trip) : Type 0 where
   pub width : t .w ≡ w

@@ -5,8 +5,8 @@ ghost use lib.ListN.{length};
 ghost use Rattle.lengths.specs.Lengths.{lenOf};
 ghost use Rattle.floor.specs.Board.{at};
 ghost use Rattle.floor.specs.Words.{numberOf};
-ghost use Rattle.search.specs.Columns.{Next, Only};
-ghost use Rattle.search.specs.Places.{Indexed};
+ghost use Rattle.places.specs.Columns.{Next, Only};
+ghost use Rattle.places.specs.Places.{Indexed};
 ghost use Rattle.line.specs.Cells.{Cell};
 ghost use Rattle.chain.specs.Chain.{Journey, Walked};
 ghost use Rattle.query.specs.Steps.{Unrefused, LateOutcome};
@@ -15,7 +15,7 @@ use super::Answer;
 use super::preparing;
 use super::refusing;
 use lengths::Length;
-use search::Trip;
+use places::Trip;
 
 // What is told of a walk of this length, where the route has room for `room` cells.
 fn tell(walk: Length, effort: usize, room: usize) -> Answer
@@ -104,10 +104,10 @@ fn search_answer(
         work,
     );
     let mut table = [0u16; 16384];
-    search::index_corners(corners, &mut table);
+    places::index_corners(corners, &mut table);
     let places = t.k + 2;
     let effort = search::run(corners, starts, neighbours, t, &table, work, places);
-    if search::get(work, places, search::SETTLED, t.to) > 0 {
+    if places::get(work, places, places::SETTLED, t.to) > 0 {
         retrace(corners, starts, neighbours, t, &table, effort, route, work)
     } else {
         Answer {

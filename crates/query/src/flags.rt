@@ -2,7 +2,7 @@
 ghost use Prim.Native.Nat.{ℕ, _<_, _≤_};
 ghost use lib.ListN.{length, getD};
 ghost use Rattle.fields.specs.Fields.{Seen};
-ghost use Rattle.search.specs.Places.{indexOf};
+ghost use Rattle.places.specs.Places.{indexOf};
 ghost use Rattle.query.specs.Flags.{Among, FlagRoom, Flaggable, Flagging, AllFlagged};
 
 // Sets the flags of the corners that are the first `end` entries of a list.
@@ -20,8 +20,8 @@ fn flag_listed(
 {
     let mut i = 0;
     while i < end {
-        let at = search::find(corners, found[i] as usize);
-        search::put(work, n, column, at, 1);
+        let at = places::find(corners, found[i] as usize);
+        places::put(work, n, column, at, 1);
         i += 1;
     }
 }

@@ -2,13 +2,13 @@
 ghost use mathlib.Core.Path.{_≡_};
 ghost use Prim.Native.Nat.{ℕ, _+_, _*_, _<_, _≤_};
 ghost use lib.ListN.{length};
-ghost use Rattle.search.specs.Places.{Ascending, indexOf};
+ghost use Rattle.places.specs.Places.{Ascending, indexOf};
 ghost use Rattle.query.specs.Flags.{Flaggable};
 ghost use Rattle.query.specs.Answers.{Searchable};
 ghost use Rattle.query.specs.Prepared.{Empty, EndFlags, Prepared};
 ghost use Rattle.query.specs.Trips.{TripOf};
 use super::flags;
-use search::Trip;
+use places::Trip;
 
 // The trip from start to goal, with the places that stand for them: a corner's own, or one of the two behind the corners.
 fn trip_of(w: usize, corners: &[u16], start: usize, goal: usize) -> Trip
@@ -16,8 +16,8 @@ fn trip_of(w: usize, corners: &[u16], start: usize, goal: usize) -> Trip
     ensures { λ r. ⌜ TripOf w (now (corners .entry)) start goal r ⌝ }
 {
     let k = corners.len();
-    let from = search::find(corners, start);
-    let at = search::find(corners, goal);
+    let from = places::find(corners, start);
+    let at = places::find(corners, goal);
     if at == k {
         Trip {
             w,
@@ -87,7 +87,7 @@ pub fn prepare(
         corners,
         work,
         k + 2,
-        search::BY_START,
+        places::BY_START,
         start,
     );
     flag_end(
@@ -98,7 +98,7 @@ pub fn prepare(
         corners,
         work,
         k + 2,
-        search::BY_GOAL,
+        places::BY_GOAL,
         goal,
     );
     t

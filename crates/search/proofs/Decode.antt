@@ -13,16 +13,16 @@ use lib.ListN.{length, getD, List·getD-eq-default}
 use Rattle.settling.specs.Chains.{wholes}
 use Rattle.settling.specs.Labels.{WaitingAt}
 use Rattle.settling.proofs.Instances.{nearest-no-later}
-use Rattle.search.specs.declared.Trip.{Trip}
-use Rattle.search.specs.Columns.{columnOf, Label, Settled}
-use Rattle.search.specs.Places.{cellAt}
-use Rattle.search.specs.Chart.{chart, cell}
-use Rattle.search.specs.Keys.{keyOf, nobody}
+use Rattle.tree.specs.Keys.{keyOf, nobody}
+use Rattle.tree.proofs.Keys.{key-place, key-some, key-order, top-least, top-leaf}
+use Rattle.places.specs.declared.Trip.{Trip}
+use Rattle.places.specs.Columns.{columnOf, Label, Settled}
+use Rattle.places.specs.Places.{cellAt}
+use Rattle.places.specs.Chart.{chart, cell}
+use Rattle.places.proofs.Columns.{column-length}
 use Rattle.search.specs.Tree.{waitsAt, Right}
 use Rattle.search.specs.Search.{read, labels, labelsOf}
 use Rattle.search.specs.Offers.{First}
-use Rattle.search.proofs.Columns.{column-length}
-use Rattle.search.proofs.Keys.{key-place, key-some, key-order, top-least, top-leaf}
 use Rattle.search.proofs.Trees.{leaf-waits, leaf-nobody}
 
 -- An entry above 0 is a label.

@@ -6,38 +6,24 @@ use Prim.Native.Nat.{ℕ, zero, suc, _+_, _*_, _-_, _≤_, _<_}
 use native.Mathlib.Numerals.{add-one}
 use native.Mathlib.Omega.{arith}
 use lib.ListN.{length, getD}
-use Rattle.search.specs.declared.Trip.{Trip}
-use Rattle.search.specs.Columns.{columnOf, Label, Settled, Left}
-use Rattle.search.specs.Places.{indexOf, Indexed, cellAt, apart, TwoCells}
-use Rattle.search.specs.Chart.{chart, arcsOf, linkAt, linkCount}
-use Rattle.search.specs.Keys.{nobody}
+use Rattle.tree.specs.Keys.{nobody}
+use Rattle.places.specs.declared.Trip.{Trip}
+use Rattle.places.specs.Columns.{columnOf, Label, Settled, Left}
+use Rattle.places.specs.Places.{indexOf, Indexed, cellAt, apart}
+use Rattle.places.specs.Chart.{chart, arcsOf, linkAt, linkCount, Ready}
+use Rattle.places.proofs.Columns.{column-length, left-same, left-trans}
+use Rattle.places.proofs.Links.{link-fits}
+use Rattle.places.proofs.Charts.{chart-same, ready-kept, arcs-most, is-cell, arc-index, arc-link}
 use Rattle.search.specs.Tree.{Small, Room, Right}
-use Rattle.search.specs.Search.{limit, labelsOf, Ready, Near, Settling, Blank}
+use Rattle.search.specs.Search.{limit, labelsOf, Near, Settling, Blank}
 use Rattle.search.specs.Offers.{Offer, Offered, Follow, Followed, Marked, First}
-use Rattle.search.proofs.Columns.{column-length, left-same, left-trans}
 use Rattle.search.proofs.Decode.{some-read}
-use Rattle.search.proofs.Cells.{index-at, cell-corner}
-use Rattle.search.proofs.Links.{link-fits, link-corner, corner-arc, count-corner, arc-inside, two-cells}
 use Rattle.search.proofs.Trees.{leaf-nobody, waits-blank}
 use Rattle.search.proofs.Steps.{offered-none, offered-skip, offered-more, step-of}
-
--- What is left as it was holds the same chart.
-pub chart-same : (C S E : List ℕ) (t : Trip) {W W′ : List ℕ} → Left (t .k + 2) W W′ → chart C S E t W′ ≡ chart C S E t W
-chart-same C S E t l = rw (l .by-start, l .by-goal)
-
--- What is ready stays ready.
-pub ready-kept : {C S E : List ℕ} {t : Trip} {W W′ : List ℕ} → Ready C S E t W → Left (t .k + 2) W W′ → Ready C S E t W′
-ready-kept r l = record { fair = rw (l .by-start, l .by-goal) (r .fair); room = rw (l .sized) (r .room) }
 
 -- What is ready has its corners, and room for the columns.
 pub ready-room : {C S E : List ℕ} {t : Trip} {W : List ℕ} → Ready C S E t W → Room C t W
 ready-room r = record { corners = r .fair .corners; few = r .fair .few; room = r .room }
-
--- The cells of corners are below 16,384.
-pub corner-small : {C S E : List ℕ} {t : Trip} {W : List ℕ} → Ready C S E t W → (i : ℕ) → i < length C → getD C i 0 < 16384
-corner-small {C} {S} {E} {t} r i h =
-    let low : i < t .k = omega (arith, r .fair .corners) in
-    omega (arith, cell-corner C t i low, r .fair .small i (omega arith))
 
 -- One link followed: it leads to a place, which has its offer, or nowhere.
 module _ {C S E : List ℕ} {t : Trip} {W : List ℕ} (u j : ℕ) {r : ℕ} (ready : Ready C S E t W) (there : j < linkCount (chart C S E t W) u) (is : r ≡ linkAt (chart C S E t W) u j) where
@@ -130,48 +116,10 @@ module _ {C S E : List ℕ} {t : Trip} {W₁ T₁ : List ℕ} {u d i j : ℕ} {W
       }
 
 -- ---- the neighbours of a corner
--- A corner has no fewer links than neighbours.
-pub arcs-most : (C S E : List ℕ) (t : Trip) (W : List ℕ) (u : ℕ) → u < t .k → arcsOf S u ≤ linkCount (chart C S E t W) u
-arcs-most C S E t W u corner = omega (arith, count-corner (chart C S E t W) u corner)
-
 module _ {C S E : List ℕ} {t : Trip} {W Q : List ℕ} (u j : ℕ) (ready : Ready C S E t W) (indexed : Indexed C Q) (corner : u < t .k) (there : j < arcsOf S u) where
   -- the cell that the arc leads to
   abbrev to : ℕ
   to = getD E (getD S u 0 + j) 0
-
-  -- The arc stands in the list of neighbours.
-  pub arc-within : getD S u 0 + j < length E
-  arc-within = let a = arc-inside (chart C S E t W) (ready .fair) u j corner there in omega (arith, a .0, a .1)
-
-  -- it leads to a corner
-  known : indexOf C to < t .k
-  known = ready .fair .known (getD S u 0 + j) arc-within
-
-  -- whose cell it is
-  is-cell : cellAt C t (indexOf C to) ≡ to
-  is-cell = cell-corner C t (indexOf C to) known ∙ index-at C to (rw (ready .fair .corners) known)
-
-  -- Its cell has an entry in the table.
-  pub arc-entry : to < length Q
-  arc-entry = omega (arith, is-cell, ready .fair .small (indexOf C to) (omega (arith, known)), indexed .room)
-
-  -- That entry is the corner's index.
-  pub arc-index : getD Q to 0 ≡ indexOf C to
-  arc-index =
-      let q = index-at C to (rw (ready .fair .corners) known) in
-      rw q at (indexed .index (indexOf C to) (rw (ready .fair .corners) known))
-
-  -- The entry is a place.
-  pub arc-place : getD Q to 0 < t .k + 2
-  arc-place = omega (arith, arc-index, known)
-
-  -- Both cells lie on the floor.
-  pub arc-cells : TwoCells (t .w) (cellAt C t u) to
-  arc-cells = rw is-cell at (two-cells (chart C S E t W) (ready .fair) u (indexOf C to) (omega arith) (omega (arith, known)))
-
-  -- The arc is link j of u.
-  arc-link : indexOf C to + 1 ≡ linkAt (chart C S E t W) u j
-  arc-link = sym (link-corner (chart C S E t W) u j corner ∙ corner-arc (chart C S E t W) u j there)
 
   -- The arc's offer is made: the link has been followed.
   pub arc-followed :
@@ -179,8 +127,8 @@ module _ {C S E : List ℕ} {t : Trip} {W Q : List ℕ} (u j : ℕ) (ready : Rea
       Follow C S E t W T u d j W′ T′
   arc-followed qa qb qv qf o =
       let z : indexOf C to + 1 - 1 ≡ indexOf C to = omega arith in
-      let v-is = qv ∙ ap (λ (x : ℕ). getD Q x 0) qb ∙ arc-index ∙ sym z in
-      follow-some u j ready (omega (arith, there, arcs-most C S E t W u corner)) arc-link (λ q. omega arith) qa (qb ∙ sym is-cell ∙ ap (cellAt C t) (sym z)) qf (rw v-is at o)
+      let v-is = qv ∙ ap (λ (x : ℕ). getD Q x 0) qb ∙ arc-index u j ready indexed corner there ∙ sym z in
+      follow-some u j ready (omega (arith, there, arcs-most C S E t W u corner)) (arc-link u j ready indexed corner there) (λ q. omega arith) qa (qb ∙ sym (is-cell u j ready indexed corner there) ∙ ap (cellAt C t) (sym z)) qf (rw v-is at o)
 
 -- ---- a place is settled
 -- Nobody waits.

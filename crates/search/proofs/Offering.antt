@@ -6,13 +6,13 @@ use Prim.Native.Nat.{ℕ, _+_, _*_, _≤_, _<_}
 use native.Mathlib.Omega.{arith}
 use lib.ListN.{length, getD, set}
 use lib.Seq.{set-getD}
-use Rattle.search.specs.declared.Trip.{Trip}
-use Rattle.search.specs.Columns.{columnOf, Label, Settled, Put}
-use Rattle.search.specs.Places.{cellAt}
-use Rattle.search.specs.Keys.{keyOf, nobody, Changed}
+use Rattle.tree.specs.Keys.{keyOf, nobody, Changed}
+use Rattle.places.specs.declared.Trip.{Trip}
+use Rattle.places.specs.Columns.{columnOf, Label, Settled, Put}
+use Rattle.places.specs.Places.{cellAt}
+use Rattle.places.proofs.Columns.{only-left, left-same}
 use Rattle.search.specs.Tree.{Right}
 use Rattle.search.specs.Offers.{lowered, Offer, Marked}
-use Rattle.search.proofs.Columns.{only-left, left-same}
 use Rattle.search.proofs.Trees.{key-fits, right-label, right-still, right-settled}
 use Rattle.search.proofs.Steps.{Lowered, lowered-is}
 

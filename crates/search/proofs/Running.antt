@@ -20,16 +20,16 @@ use Rattle.settling.proofs.Ranks.{no-later-trans, shorter-of-first}
 use Rattle.settling.proofs.Search.{follow, settled-shortest, none-before, settled-reachable, first-sound, step-sound}
 use Rattle.settling.proofs.Tally.{counts-unique, counts-none, counts-at-most, length-below}
 use Rattle.settling.proofs.Effort.{first-none-after, step-counts, none-after-unsettled, effort-without-goal, effort-distinct, settled-in-reach, none-tie}
-use Rattle.search.specs.declared.Trip.{Trip}
-use Rattle.search.specs.Columns.{columnOf, Label, Left}
-use Rattle.search.specs.Chart.{Chart, chart, Fair, net, order}
+use Rattle.places.specs.declared.Trip.{Trip}
+use Rattle.places.specs.Columns.{columnOf, Label, Left}
+use Rattle.places.specs.Chart.{Chart, chart, Fair, net, order, Ready}
+use Rattle.places.proofs.Columns.{column-length, left-same, left-trans}
+use Rattle.places.proofs.Links.{consistent, distinct}
+use Rattle.places.proofs.Charts.{chart-same, ready-kept}
 use Rattle.search.specs.Tree.{Right}
-use Rattle.search.specs.Search.{labelsOf, Ready, Foremost, Near, Settling, Blank, Bounded, Outcome, Run}
+use Rattle.search.specs.Search.{labelsOf, Foremost, Near, Settling, Blank, Bounded, Outcome, Run}
 use Rattle.search.specs.Offers.{Offer}
-use Rattle.search.proofs.Columns.{column-length, left-same, left-trans}
-use Rattle.search.proofs.Links.{consistent, distinct}
 use Rattle.search.proofs.Decode.{some-read}
-use Rattle.search.proofs.Follows.{chart-same, ready-kept}
 
 -- Where as many of the numbers below n have a property as there are, each has it.
 counts-all : {P : ℕ → Type 0} (n m : ℕ) → Counts P (below n) m → n ≤ m → (x : ℕ) → x < n → P x

@@ -12,7 +12,7 @@ use borrow.Author.Tests.{lt-ltb, le-ltb}
 use lib.ListN.{length, getD, set}
 use lib.Seq.{getD-set-same, getD-set-other}
 use Rattle.settling.specs.Labels.{Step}
-use Rattle.search.specs.Chart.{Chart, linkAt, linkCount, net, order}
+use Rattle.places.specs.Chart.{Chart, linkAt, linkCount, net, order}
 use Rattle.search.specs.Search.{read, labels, Foremost}
 use Rattle.search.specs.Offers.{lowered, Offered}
 use Rattle.search.proofs.Decode.{read-some, some-read}

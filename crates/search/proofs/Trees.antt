@@ -9,13 +9,13 @@ use native.Mathlib.Decide.{ℕ-discrete, decLt}
 use borrow.Author.Tests.{lt-ltb, le-ltb}
 use lib.ListN.{length, getD, set}
 use lib.Seq.{getD-set-same, getD-set-other}
-use Rattle.search.specs.declared.Trip.{Trip}
-use Rattle.search.specs.Columns.{columnOf, Label, Settled, Put}
-use Rattle.search.specs.Places.{cellAt}
-use Rattle.search.specs.Keys.{keyOf, nobody, Changed}
+use Rattle.tree.specs.Keys.{keyOf, nobody, Changed}
+use Rattle.tree.proofs.Keys.{key-lower}
+use Rattle.places.specs.declared.Trip.{Trip}
+use Rattle.places.specs.Columns.{columnOf, Label, Settled, Put}
+use Rattle.places.specs.Places.{cellAt}
+use Rattle.places.proofs.Columns.{column-length}
 use Rattle.search.specs.Tree.{waitsAt, leafOf, Right}
-use Rattle.search.proofs.Columns.{column-length}
-use Rattle.search.proofs.Keys.{key-lower}
 
 -- ---- leaves
 module _ (D F : List ℕ) (cell : ℕ → ℕ) where

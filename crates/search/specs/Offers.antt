@@ -8,9 +8,9 @@ use Prim.Native.Nat.{ℕ, _+_, _-_, _≤_, _<_, min}
 use lib.Dec.{ltb}
 use lib.ListN.{length, getD, set}
 use Rattle.settling.specs.Labels.{WaitingAt}
-use Rattle.search.specs.declared.Trip.{Trip}
-use Rattle.search.specs.Columns.{columnOf, Label, Settled, Left}
-use Rattle.search.specs.Chart.{Chart, chart, linkAt, net}
+use Rattle.places.specs.declared.Trip.{Trip}
+use Rattle.places.specs.Columns.{columnOf, Label, Settled, Left}
+use Rattle.places.specs.Chart.{Chart, chart, linkAt, net}
 use Rattle.search.specs.Tree.{Right}
 use Rattle.search.specs.Search.{labelsOf, Foremost}
 

@@ -5,7 +5,7 @@ use mathlib.Core.Logic.{_⊎_, _↔_}
 use mathlib.Core.Bool.{cond, true, false}
 use mathlib.Core.List.{List}
 use mathlib.Core.Option.{Option, some, none}
-use Prim.Native.Nat.{ℕ, _+_, _-_, _*_, _≤_, _<_}
+use Prim.Native.Nat.{ℕ, _+_, _-_, _≤_, _<_}
 use lib.Dec.{ltb}
 use lib.ListN.{length, getD}
 use Rattle.settling.specs.Chains.{Chain, Reachable, Shortest, wholes}
@@ -13,9 +13,9 @@ use Rattle.settling.specs.Order.{NoLater}
 use Rattle.settling.specs.Labels.{Labels, SettledAt, WaitingAt, Step, Sound}
 use Rattle.settling.specs.Counts.{Counts, below}
 use Rattle.settling.specs.Effort.{InReach}
-use Rattle.search.specs.declared.Trip.{Trip}
-use Rattle.search.specs.Columns.{columnOf, Label, Tree, Settled, Left}
-use Rattle.search.specs.Chart.{Chart, chart, Fair, net, order}
+use Rattle.places.specs.declared.Trip.{Trip}
+use Rattle.places.specs.Columns.{columnOf, Label, Tree, Settled, Left}
+use Rattle.places.specs.Chart.{Chart, chart, net, order}
 use Rattle.search.specs.Tree.{Right}
 
 -- A label is stored as one more than it is, and 0 stands for none.
@@ -29,11 +29,6 @@ labels D F = record { label = λ v. read (getD D v 0); settled = λ v. ltb 0 (ge
 -- The labels of a work space whose columns have n entries.
 abbrev pub labelsOf : ℕ → List ℕ → Labels wholes
 labelsOf n W = labels (columnOf n W Label) (columnOf n W Settled)
-
--- What the search needs: a fair chart, and room for the columns.
-pub record Ready (C S E : List ℕ) (t : Trip) (W : List ℕ) : Type 0 where
-  pub fair : Fair (chart C S E t W)
-  pub room : 6 * (t .k + 2) ≤ length W
 
 -- The weight of 16,383 diagonal steps: no shortest walk on a floor has more steps.
 abbrev pub limit : ℕ

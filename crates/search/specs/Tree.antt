@@ -6,10 +6,10 @@ use mathlib.Core.List.{List}
 use Prim.Native.Nat.{ℕ, _+_, _*_, _≤_, _<_}
 use lib.Dec.{ltb}
 use lib.ListN.{getD, length}
-use Rattle.search.specs.declared.Trip.{Trip}
-use Rattle.search.specs.Columns.{columnOf, Label, Settled}
-use Rattle.search.specs.Places.{cellAt}
-use Rattle.search.specs.Keys.{keyOf, nobody, Keyed}
+use Rattle.tree.specs.Keys.{keyOf, nobody, Keyed}
+use Rattle.places.specs.declared.Trip.{Trip}
+use Rattle.places.specs.Columns.{columnOf, Label, Settled}
+use Rattle.places.specs.Places.{cellAt}
 
 -- Whether place p waits, by the entries of labels and of settled places: it has a label and is not settled.
 abbrev pub waitsAt : List ℕ → List ℕ → ℕ → Bool

@@ -5,9 +5,9 @@ use mathlib.Core.Path.{subst}
 use native.Mathlib.Omega.{arith}
 use lib.ListN.{length}
 use Rattle.lengths.specs.Lengths.{pair, lenOf}
-use Rattle.search.specs.Columns.{Next, Only}
-use Rattle.search.proofs.Columns.{only-same, only-trans}
-use Rattle.search.proofs.Links.{two-cells}
+use Rattle.places.specs.Columns.{Next, Only}
+use Rattle.places.proofs.Columns.{only-same, only-trans}
+use Rattle.places.proofs.Links.{two-cells}
 use Rattle.chain.specs.Chain.{Journey, Walked, labelAt, Reached, Prior}
 use Rattle.chain.proofs.Backwards.{goal-reached, reached-inside, Tracing, tracing-none, leg-fits, tracing-next, tracing-done, reached-kept, prior-kept, walked-kept}
 use Rattle.chain.proofs.link_back.Statement.{statement}

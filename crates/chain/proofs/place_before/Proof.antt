@@ -3,8 +3,8 @@ use Prim.Native.Nat.{ℕ, _+_, _-_, _≤_}
 use mathlib.Core.Logic.{⊎-elim}
 use mathlib.Core.Path.{_≡_, sym, subst}
 use native.Mathlib.Omega.{arith}
-use Rattle.search.specs.Chart.{chart, linkCount}
-use Rattle.search.proofs.Links.{two-cells, link-fits}
+use Rattle.places.specs.Chart.{chart, linkCount}
+use Rattle.places.proofs.Links.{two-cells, link-fits}
 use Rattle.search.proofs.Follows.{ready-room}
 use Rattle.chain.specs.Chain.{LeadsTo, Lesser}
 use Rattle.chain.proofs.Backwards.{Best, best-none, best-skip, best-more, reached-inside, best-some, best-prior}

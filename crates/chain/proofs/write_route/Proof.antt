@@ -5,8 +5,8 @@ use mathlib.Core.List.{List}
 use mathlib.Core.Path.{_≡_, refl, _∙_}
 use native.Mathlib.Omega.{arith}
 use lib.ListN.{length, getD, set, length-set}
-use Rattle.search.specs.Columns.{columnOf, Label, Next}
-use Rattle.search.proofs.Columns.{column-length}
+use Rattle.places.specs.Columns.{columnOf, Label, Next}
+use Rattle.places.proofs.Columns.{column-length}
 use Rattle.chain.specs.Chain.{Paved}
 use Rattle.chain.proofs.Paving.{along-low, along-entry, along-next, Paving, paving-none, leg-room, paving-next, paving-done, start-written}
 use Rattle.chain.proofs.write_route.Statement.{statement}

@@ -1,7 +1,7 @@
 -- `search::follow` meets its contract. Assumes nothing.
 use native.Mathlib.Omega.{arith}
 use borrow.Author.Needs.{needs}
-use Rattle.search.proofs.Links.{two-cells}
+use Rattle.places.proofs.Links.{two-cells}
 use Rattle.search.proofs.Follows.{ready-room, link-inside, follow-some, follow-none}
 use Rattle.search.proofs.follow.Statement.{statement}
 use Rattle.search.proofs.follow.Tie as tie

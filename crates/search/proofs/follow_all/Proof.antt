@@ -2,7 +2,8 @@
 use native.Mathlib.Omega.{arith}
 use mathlib.Core.Path.{_≡_, _∙_}
 use Prim.Native.Nat.{_≤_, _-_}
-use Rattle.search.proofs.Follows.{ready-kept, Following, following-first, following-more}
+use Rattle.places.proofs.Charts.{ready-kept}
+use Rattle.search.proofs.Follows.{Following, following-first, following-more}
 use Rattle.search.proofs.follow_all.Statement.{statement}
 use Rattle.search.proofs.follow_all.Tie as tie
 

@@ -3,7 +3,8 @@ use native.Mathlib.Omega.{arith}
 use borrow.Author.Needs.{needs}
 use mathlib.Core.Path.{_≡_}
 use Prim.Native.Nat.{_≤_, _-_}
-use Rattle.search.proofs.Follows.{ready-room, followed-none, Following, following-first, following-more, arcs-most, arc-within, arc-entry, arc-place, arc-cells, arc-followed}
+use Rattle.places.proofs.Charts.{arcs-most, arc-within, arc-entry, arc-place, arc-cells}
+use Rattle.search.proofs.Follows.{ready-room, followed-none, Following, following-first, following-more, arc-followed}
 use Rattle.search.proofs.follow_arcs.Statement.{statement}
 use Rattle.search.proofs.follow_arcs.Tie as tie
 

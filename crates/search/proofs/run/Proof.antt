@@ -1,8 +1,9 @@
 -- `search::run` meets its contract. Assumes nothing.
 use native.Mathlib.Omega.{arith}
 use lib.ListN.{getD-replicate}
-use Rattle.search.specs.Keys.{nobody}
-use Rattle.search.proofs.Follows.{ready-room, ready-kept}
+use Rattle.tree.specs.Keys.{nobody}
+use Rattle.places.proofs.Charts.{ready-kept}
+use Rattle.search.proofs.Follows.{ready-room}
 use Rattle.search.proofs.Running.{begun-first, bounded-begun, run-begun}
 use borrow.Author.Needs.{needs}
 use Rattle.search.proofs.run.Statement.{statement}

@@ -1,7 +1,8 @@
 -- `search::settle` meets its contract. Assumes nothing.
 use native.Mathlib.Omega.{arith}
 use borrow.Author.Needs.{needs}
-use Rattle.search.proofs.Follows.{ready-kept, first-entry, first-near, settling-none, settling-some}
+use Rattle.places.proofs.Charts.{ready-kept}
+use Rattle.search.proofs.Follows.{first-entry, first-near, settling-none, settling-some}
 use Rattle.search.proofs.settle.Statement.{statement}
 use Rattle.search.proofs.settle.Tie as tie
 

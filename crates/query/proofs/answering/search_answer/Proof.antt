@@ -7,7 +7,7 @@ use borrow.Author.Needs.{needs}
 use lib.ListN.{length}
 use Rattle.query.proofs.Wiping.{zeroed-length}
 use Rattle.query.proofs.Searching.{cleared-empty, still-searchable, search-ready, search-bounded, goal-read, few-settled, goal-walked, answer-found, lost-effort, lost-beyond, found-beyond}
-use Rattle.search.proofs.Follows.{corner-small}
+use Rattle.places.proofs.Charts.{corner-small}
 use Rattle.query.proofs.answering.search_answer.Statement.{statement}
 use Rattle.query.proofs.answering.search_answer.Tie as tie
 

@@ -5,7 +5,7 @@ use native.Mathlib.Omega.{arith}
 use borrow.Author.Needs.{needs}
 use borrow.Author.Count.{below-none, below-more}
 use lib.ListN.{getD}
-use Rattle.search.specs.Places.{indexOf}
+use Rattle.places.specs.Places.{indexOf}
 use Rattle.query.specs.Flags.{Among, Flag, Flagging}
 use Rattle.query.proofs.Flagged.{same-room, flagging-none, flagging-more, flagging-one, put-flag}
 use Rattle.query.proofs.flags.flag_listed.Statement.{statement}

@@ -5,7 +5,7 @@ use mathlib.Core.List.{List}
 use native.Mathlib.Omega.{arith}
 use borrow.Author.Needs.{needs}
 use lib.ListN.{getD}
-use Rattle.search.specs.Columns.{ByStart, ByGoal}
+use Rattle.places.specs.Columns.{ByStart, ByGoal}
 use Rattle.query.specs.Prepared.{Empty}
 use Rattle.query.proofs.Charting.{flaggable, prepared}
 use Rattle.chain.proofs.Corners.{corners-ascend}

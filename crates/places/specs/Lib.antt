@@ -1,0 +1,3 @@
+pub mod Columns
+pub mod Places
+pub mod Chart
