@@ -26,8 +26,9 @@ use Rattle.chain.specs.Route.{cellsOf, RouteOf}
 use Rattle.chain.proofs.Legal.{route-cells}
 use Rattle.chain.proofs.Single.{route-unique}
 use Rattle.effort.proofs.Bounds.{lost-unique}
-use Rattle.query.specs.declared.Answer.{Answer}
-use Rattle.query.specs.Query.{Asked, Shut, startCell, goalCell, workSize, Distance, WalkFound, NoRoute, QueryOutcome}
+use Rattle.answering.specs.declared.Answer.{Answer}
+use Rattle.answering.specs.Asked.{Asked, startCell, goalCell, workSize, Distance, WalkFound, NoRoute}
+use Rattle.query.specs.Query.{Shut, QueryOutcome}
 use Rattle.query.proofs.Outcome.{codes, code-kind, found-same, no-route-same}
 use Rattle.query.proofs.Passed.{passed, trip-passed}
 use Rattle.reading.specs.Lines.{At, TwoLine}

@@ -12,14 +12,15 @@ use lib.ListN.{length}
 use Rattle.floor.specs.Board.{corner}
 use Rattle.floor.specs.Words.{board, placeOf}
 use Rattle.ground.proofs.Logic.{true-or-false}
-use Rattle.settling.specs.Counts.{Counts, empty, with, without, below}
 use Rattle.marks.specs.Lists.{select}
 use Rattle.marks.specs.Marks.{cornerCell}
 use Rattle.marks.proofs.Selects.{select-none, length-taken, length-passed}
-use Rattle.effort.proofs.Bounds.{found-bound, lost-bound}
-use Rattle.query.specs.Query.{Asked, startCell, goalCell, Billed, Answered, QueryOutcome}
 use Rattle.plan.specs.Plan.{Fits}
-use Rattle.query.specs.declared.Answer.{Answer}
+use Rattle.settling.specs.Counts.{Counts, empty, with, without, below}
+use Rattle.effort.proofs.Bounds.{found-bound, lost-bound}
+use Rattle.answering.specs.Asked.{Asked, startCell, goalCell, Billed}
+use Rattle.answering.specs.declared.Answer.{Answer}
+use Rattle.query.specs.Query.{Answered, QueryOutcome}
 use Rattle.query.proofs.Passed.{passed, answered-late}
 
 -- the numbers below n that pass a test are as many as are selected

@@ -1,7 +1,7 @@
 -- Which of the refusals 1 to 11 a query gives, from its tests. Assumes nothing.
 use Prim.Native.Nat.{ℕ, _+_, _*_, _<_, _≤_}
 use mathlib.Core.List.{List, [], _∷_, _++_}
-use mathlib.Core.Logic.{_⊎_, inl, inr, ⊎-elim}
+use mathlib.Core.Logic.{inl, inr, ⊎-elim}
 use mathlib.Core.Path.{refl}
 use native.Mathlib.Omega.{arith}
 use lib.ListN.{length}
@@ -12,8 +12,10 @@ use Rattle.floor.proofs.Accepted.{accepted}
 use Rattle.floor.proofs.Tables.{first-here, first-later}
 use Rattle.ground.proofs.Logic.{true-or-false}
 use Rattle.plan.specs.Plan.{Lists, Fits}
-use Rattle.query.specs.Query.{Asked, Shut, queryRows}
-use Rattle.query.specs.Steps.{Judged, planRows, endRows, earlyRows, lateRows, Unrefused}
+use Rattle.answering.specs.Asked.{Asked}
+use Rattle.answering.specs.Steps.{lateRows, Unrefused}
+use Rattle.query.specs.Query.{Shut, queryRows}
+use Rattle.query.specs.Refusing.{Judged, planRows, endRows, earlyRows}
 
 -- none of the first rows applies where none of all does
 first-only : (rs ss : List Refusal) → Numbered rs → FirstOf (rs ++ ss) 0 → FirstOf rs 0

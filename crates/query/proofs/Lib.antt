@@ -4,12 +4,5 @@ pub mod Passed
 pub mod Billing
 pub mod Stay
 pub mod Whole
-pub mod Flagged
-pub mod Wiping
 pub mod Early
-pub mod Late
-pub mod Charting
-pub mod Telling
-pub mod Retracing
-pub mod Searching
 pub mod Deciding

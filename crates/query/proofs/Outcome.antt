@@ -14,10 +14,11 @@ use Rattle.ground.proofs.Walks.{shortest-unique}
 use Rattle.marks.specs.Lists.{written}
 use Rattle.plan.specs.Rising.{In}
 use Rattle.effort.proofs.Bounds.{found-unique, lost-unique}
-use Rattle.query.specs.Query.{Asked, startCell, goalCell, queryRows, Billed, WalkFound, NoRoute, RouteWritten, QueryOutcome}
 use Rattle.chain.specs.Route.{cellsOf}
-use Rattle.query.specs.declared.Answer.{Answer}
 use Rattle.chain.proofs.Single.{route-unique}
+use Rattle.answering.specs.Asked.{Asked, startCell, goalCell, Billed, WalkFound, NoRoute, RouteWritten}
+use Rattle.answering.specs.declared.Answer.{Answer}
+use Rattle.query.specs.Query.{queryRows, QueryOutcome}
 
 -- the numbers of a table's rows
 abbrev pub numbers : List Refusal → List ℕ

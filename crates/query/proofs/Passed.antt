@@ -17,11 +17,12 @@ use Rattle.ground.specs.Kind.{walkers}
 use Rattle.ground.specs.Walk.{NoWalk}
 use Rattle.ground.proofs.Logic.{true-or-false}
 use Rattle.ground.proofs.Walks.{place-eq}
-use Rattle.effort.specs.Net.{Startable}
-use Rattle.query.specs.Query.{Asked, Shut, startCell, goalCell, workSize, Distance, queryRows, Answered}
 use Rattle.plan.specs.Plan.{Fits}
+use Rattle.effort.specs.Net.{Startable}
 use Rattle.chain.specs.Route.{cellsOf}
-use Rattle.query.specs.declared.Answer.{Answer}
+use Rattle.answering.specs.Asked.{Asked, startCell, goalCell, workSize, Distance}
+use Rattle.answering.specs.declared.Answer.{Answer}
+use Rattle.query.specs.Query.{Shut, queryRows, Answered}
 
 -- a row that did not give its number does not apply, and the rows after it decide
 past : {P Q : Type 0} {c n : ℕ} → ¬ (c ≡ n) → (P × (c ≡ n)) ⊎ ((¬ P) × Q) → (¬ P) × Q

@@ -1,40 +1,20 @@
--- A trip from a cell to itself: the direct line is clear, and the route is the cell alone.
+-- A trip from a cell to itself: its answer.
 -- Assumes nothing.
 use Prim.Native.Nat.{ℕ}
 use mathlib.Core.Path.{_≡_, sym, _∙_, ap, subst}
-use mathlib.Core.List.{List, [], _∷_, _++_}
+use mathlib.Core.List.{List, []}
 use mathlib.Core.Logic.{_⊎_, inl, inr, ⊎-elim}
-use lib.ListN.{replicate}
 use Rattle.lengths.specs.Lengths.{Len, 𝟎}
-use Rattle.lengths.specs.Octile.{distance-self}
-use Rattle.floor.specs.Board.{Place, Dir, Free}
-use Rattle.floor.specs.Words.{board, placeOf}
-use Rattle.ground.specs.Kind.{walkers}
-use Rattle.ground.specs.Walk.{Legal}
-use Rattle.ground.specs.Line.{diagonal-way, straight-way, line}
+use Rattle.floor.specs.Words.{placeOf}
 use Rattle.effort.specs.Effort.{Far, EffortLost}
 use Rattle.effort.specs.Net.{Startable}
-use Rattle.line.specs.Cells.{after}
-use Rattle.chain.specs.Route.{LineClear, RouteOf, cellsOf}
-use Rattle.query.specs.Query.{Asked, startCell, goalCell, Distance, Billed, WalkFound, Answered, QueryOutcome}
-use Rattle.query.specs.declared.Answer.{Answer}
+use Rattle.chain.specs.Route.{LineClear, cellsOf}
 use Rattle.chain.proofs.Legal.{start-near}
+use Rattle.answering.specs.Asked.{Asked, startCell, goalCell, Distance, Billed, WalkFound}
+use Rattle.answering.specs.declared.Answer.{Answer}
+use Rattle.answering.proofs.Still.{start-is-goal}
+use Rattle.query.specs.Query.{Answered, QueryOutcome}
 use Rattle.query.proofs.Passed.{passed, answered-late, trip-passed}
-
--- the direct line of a place to itself has no step
-pub line-none : (p : Place) → line p p ≡ []
-line-none p =
-    ap (λ (l : Len). replicate (l .diagonal) (diagonal-way p p) ++ replicate (l .straight) (straight-way p p)) (distance-self (p .x) (p .y))
-
-module _ (w h : ℕ) (words : List ℕ) (start : ℕ) (free : Free (board w h words) (placeOf w start)) where
-  -- The direct line from a free cell to itself is clear.
-  pub start-is-goal : LineClear w h words start start
-  start-is-goal = subst (λ (ds : List Dir). Legal walkers (board w h words) (placeOf w start) ds) (sym (line-none (placeOf w start))) free
-
-  -- So its route is that cell alone.
-  pub stay-route : (cells : List ℕ) → RouteOf w h words start start cells → cells ≡ start ∷ []
-  stay-route cells (inl p) = p .1 ∙ ap (λ (ds : List Dir). start ∷ after w (placeOf w start) ds) (line-none (placeOf w start))
-  stay-route cells (inr r) = absurd (r .barred start-is-goal)
 
 module _ (a : Asked) where
   -- the answer to a query from a cell to itself

@@ -13,14 +13,15 @@ use Rattle.floor.specs.Words.{board, placeOf}
 use Rattle.ground.specs.Kind.{walkers}
 use Rattle.ground.specs.Walk.{Walk, len}
 use Rattle.marks.specs.Lists.{written}
-use Rattle.plan.specs.Rising.{In}
 use Rattle.marks.proofs.Selects.{written-long}
+use Rattle.plan.specs.Rising.{In}
 use Rattle.effort.specs.Net.{Startable}
 use Rattle.line.specs.Cells.{after}
-use Rattle.query.specs.Query.{Asked, startCell, goalCell, QueryOutcome}
 use Rattle.chain.specs.Route.{cellsOf}
-use Rattle.query.specs.declared.Answer.{Answer}
 use Rattle.chain.proofs.Legal.{route-legal, route-cells, route-ends, route-inside}
+use Rattle.answering.specs.Asked.{Asked, startCell, goalCell}
+use Rattle.answering.specs.declared.Answer.{Answer}
+use Rattle.query.specs.Query.{QueryOutcome}
 use Rattle.query.proofs.Passed.{Passed, passed, trip-passed, done-room}
 
 module _ (a : Asked) where

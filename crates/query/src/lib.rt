@@ -1,24 +1,11 @@
-// One question: the direct line, the search, the chain back from the goal and the route.
+// One question, whatever is lent: the refusals 1 to 11, then the answer.
 ghost use Rattle.floor.specs.Words.{Floor};
 ghost use Rattle.plan.specs.Plan.{Fits};
 ghost use Rattle.query.specs.Query.{QueryOutcome};
-ghost use Rattle.query.specs.Answers.{CodeOnly};
+ghost use Rattle.query.specs.Refusing.{CodeOnly};
+use answering::Answer;
 
-mod answering;
-mod flags;
-mod preparing;
 mod refusing;
-
-// What a query returns: the number of document 01's table; where it is 0 or 13 the length, the cells of the route and the effort; where
-// it is 12 the effort.
-#[repr(C)]
-pub struct Answer {
-    pub code: u32,
-    pub straight: u32,
-    pub diagonal: u32,
-    pub cells: u32,
-    pub effort: u32,
-}
 
 // The answer that gives a refusal's number.
 fn refused(code: u32) -> Answer
@@ -57,7 +44,7 @@ pub fn ask(
     if code != 0 {
         return refused(code);
     }
-    answering::answer(
+    answering::ways::answer(
         words,
         w,
         h,

@@ -2,11 +2,8 @@
 ghost use Rattle.floor.specs.Refusals.{FirstOf, Tells};
 ghost use Rattle.floor.specs.Words.{Floor};
 ghost use Rattle.query.specs.Query.{Shut};
-ghost use Rattle.query.specs.Steps.{Judged, endRows};
+ghost use Rattle.query.specs.Refusing.{Judged, endRows};
 ghost use Prim.Native.Nat.{_≤_};
-ghost use mathlib.Core.Path.{_≡_};
-ghost use lib.ListN.{length, replicate};
-ghost use Rattle.marks.specs.Lists.{written};
 
 // 0, or the first of the refusals 1, 2, 3 and 8 that applies.
 pub fn plan_refusal(
@@ -68,17 +65,5 @@ pub fn ends_refusal(
         11
     } else {
         0
-    }
-}
-
-// Sets the first `count` entries to 0.
-pub fn zero_first(work: &mut [u32], count: usize)
-    requires { ⌜ count ≤ length (now work) ⌝ }
-    ensures { λ r. ⌜ now (work .exit) ≡ written (replicate count 0) (now (work .entry)) ⌝ }
-{
-    let mut i = 0;
-    while i < count {
-        work[i] = 0;
-        i += 1;
     }
 }

@@ -10,9 +10,10 @@ use Rattle.floor.specs.Refusals.{Refusal, refuse, FirstOf, Numbered}
 use Rattle.floor.specs.Words.{floorRows, board, placeOf}
 use Rattle.ground.specs.Kind.{walkers}
 use Rattle.ground.specs.Walk.{NoWalk}
-use Rattle.query.specs.declared.Answer.{Answer}
+use Rattle.answering.specs.declared.Answer.{Answer}
 use Rattle.plan.specs.Plan.{Fits}
-use Rattle.query.specs.Query.{Asked, Shut, startCell, goalCell, workSize, QueryOutcome}
+use Rattle.answering.specs.Asked.{Asked, startCell, goalCell, workSize}
+use Rattle.query.specs.Query.{Shut, QueryOutcome}
 
 -- where a table gives 0, its last row does not apply
 last-passes : (rs : List Refusal) (r : Refusal) (c : ℕ) → Numbered rs → 0 < r .number → c ≡ 0 → FirstOf (rs ++ (r ∷ [])) c → ¬ (r .applies)

@@ -6,8 +6,9 @@ use mathlib.Core.Logic.{_⊎_}
 use mathlib.Core.Path.{_≡_}
 use lib.ListN.{length, take}
 use Rattle.lengths.specs.Lengths.{pair, figureOf}
-use Rattle.query.specs.declared.Answer.{Answer}
-use Rattle.query.specs.Query.{Asked, QueryOutcome}
+use Rattle.answering.specs.declared.Answer.{Answer}
+use Rattle.answering.specs.Asked.{Asked}
+use Rattle.query.specs.Query.{QueryOutcome}
 use Rattle.reading.specs.Lines.{At, FourLine}
 use Rattle.writing.specs.Answers.{Put, answerNumbers, routeCells, inputRefused}
 use Rattle.opening.specs.Grounds.{Ground}

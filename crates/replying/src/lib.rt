@@ -8,7 +8,7 @@ ghost use lib.ListN.{length};
 ghost use Rattle.writing.specs.Answers.{Put, inputRefused};
 ghost use Rattle.opening.specs.Grounds.{ground, Walkable};
 ghost use Rattle.replying.specs.Replies.{replyLine, Printable, PutLine, Begins, Room, spotOf, RefusedAt, RepliedTo};
-use query::Answer;
+use answering::Answer;
 use reading::Four;
 
 mod filling;

@@ -4,7 +4,7 @@ use native.Mathlib.Omega.{arith}
 use borrow.Author.Needs.{needs}
 use Rattle.floor.specs.Refusals.{FirstOf}
 use Rattle.floor.proofs.Accepted.{rows-pass}
-use Rattle.query.specs.Steps.{endRows}
+use Rattle.query.specs.Refusing.{endRows}
 use Rattle.query.proofs.Early.{own-plan, ready}
 use Rattle.query.proofs.Deciding.{by-ends, by-answer}
 use Rattle.query.proofs.ask.Statement.{statement}

@@ -2,7 +2,7 @@
 use mathlib.Core.Path.{refl, subst}
 use native.Mathlib.Omega.{arith}
 use borrow.Author.Needs.{needs}
-use Rattle.query.specs.Steps.{Judged}
+use Rattle.query.specs.Refusing.{Judged}
 use Rattle.query.proofs.Early.{judged-floor}
 use Rattle.query.proofs.Deciding.{by-plan}
 use Rattle.query.proofs.query.Statement.{statement}

@@ -1,0 +1,4 @@
+-- The definitions that the contracts cite.
+pub mod Flags
+pub mod Trips
+pub mod Prepared
