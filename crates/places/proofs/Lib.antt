@@ -3,3 +3,4 @@ pub mod Columns
 pub mod Cells
 pub mod Links
 pub mod Charts
+pub mod Told

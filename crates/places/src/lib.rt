@@ -9,6 +9,7 @@ ghost use Rattle.lengths.specs.Lengths.{octileOf};
 ghost use Rattle.lengths.specs.Laws.{weight};
 ghost use Rattle.places.specs.Columns.{columnOf, Inside, Put};
 ghost use Rattle.places.specs.Places.{indexOf, Ascending, Bound, Gain, Indexed, cellAt, apart, TwoCells};
+ghost use Rattle.places.specs.Flagging.{FlagsOf};
 ghost use Rattle.places.specs.Chart.{chart, flagged as flaggedOf, Rows, arcsOf, countOf, cornerLink, linkAt, linkCount, Ready};
 
 // The least length known of a place, plus one; 0 for none.
@@ -206,6 +207,39 @@ pub fn link_count(starts: &[u16], k: usize, u: usize) -> usize
         return arc_count(starts, u) + 2;
     }
     k
+}
+
+// The flags that tell of links of a place: `count` of them, the first at entry `at` of the work space, each `apart` entries after the
+// one before it. Flag i tells of a link to the place `to` + i.
+pub struct Flags {
+    pub at: usize,
+    pub apart: usize,
+    pub to: usize,
+    pub count: usize,
+}
+
+// The flags of place u: of a corner its own two, for start and goal; of the start and of the goal those of all corners. They are
+// told as entries at equal distances, so that who looks through them has nothing to decide at each.
+pub fn flags_of(t: Trip, u: usize) -> Flags
+    requires { ⌜ (t .k ≤ 2048) × (u < t .k + 2) ⌝ }
+    ensures { λ r. ⌜ FlagsOf t u r ⌝ }
+{
+    let n = t.k + 2;
+    if u < t.k {
+        Flags {
+            at: BY_START * n + u,
+            apart: n,
+            to: t.k,
+            count: 2,
+        }
+    } else {
+        Flags {
+            at: (BY_START + u - t.k) * n,
+            apart: 1,
+            to: 0,
+            count: t.k,
+        }
+    }
 }
 
 // Link j of corner u: a neighbour, whose index the table tells, or the start, or the goal.

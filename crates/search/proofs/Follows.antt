@@ -5,12 +5,16 @@ use mathlib.Core.List.{List}
 use Prim.Native.Nat.{ℕ, zero, suc, _+_, _*_, _-_, _≤_, _<_}
 use native.Mathlib.Numerals.{add-one}
 use native.Mathlib.Omega.{arith}
+use borrow.Author.Tests.{lt-ltb, le-ltb}
 use lib.ListN.{length, getD}
 use Rattle.tree.specs.Keys.{nobody}
 use Rattle.places.specs.declared.Trip.{Trip}
+use Rattle.places.specs.declared.Flags.{Flags}
 use Rattle.places.specs.Columns.{columnOf, Label, Settled, Left}
 use Rattle.places.specs.Places.{indexOf, Indexed, cellAt, apart}
 use Rattle.places.specs.Chart.{chart, arcsOf, linkAt, linkCount, Ready}
+use Rattle.places.specs.Flagging.{firstTold, FlagsOf}
+use Rattle.places.proofs.Told.{told-there, tells}
 use Rattle.places.proofs.Columns.{column-length, left-same, left-trans}
 use Rattle.places.proofs.Links.{link-fits}
 use Rattle.places.proofs.Charts.{chart-same, ready-kept, arcs-most, is-cell, arc-index, arc-link}
@@ -91,8 +95,8 @@ pub record Following (C S E : List ℕ) (t : Trip) (W₁ T₁ : List ℕ) (u d i
   pub followed : (W₀ T₀ : List ℕ) → Followed C S E t W₀ T₀ u d i W₁ T₁ → Followed C S E t W₀ T₀ u d j W T
 
 -- At first nothing has changed.
-pub following-first : {C S E : List ℕ} {t : Trip} {W T : List ℕ} {u d i : ℕ} → Ready C S E t W → Right C t W T → Following C S E t W T u d i i W T
-following-first ready right = record { ready = ready; right = right; sized = refl; tree = refl; followed = λ W₀ T₀ f. f }
+pub following-first : {C S E : List ℕ} {t : Trip} {W T : List ℕ} {u d i j : ℕ} → i ≡ j → Ready C S E t W → Right C t W T → Following C S E t W T u d i j W T
+following-first q ready right = record { ready = ready; right = right; sized = refl; tree = refl; followed = λ W₀ T₀ f. rw q at f }
 
 module _ {C S E : List ℕ} {t : Trip} {W₁ T₁ : List ℕ} {u d i j : ℕ} {W T : List ℕ} (f : Following C S E t W₁ T₁ u d i j W T) where
   -- what one link more leaves as it was, and the tree
@@ -129,6 +133,27 @@ module _ {C S E : List ℕ} {t : Trip} {W Q : List ℕ} (u j : ℕ) (ready : Rea
       let z : indexOf C to + 1 - 1 ≡ indexOf C to = omega arith in
       let v-is = qv ∙ ap (λ (x : ℕ). getD Q x 0) qb ∙ arc-index u j ready indexed corner there ∙ sym z in
       follow-some u j ready (omega (arith, there, arcs-most C S E t W u corner)) (arc-link u j ready indexed corner there) (λ q. omega arith) qa (qb ∙ sym (is-cell u j ready indexed corner there) ∙ ap (cellAt C t) (sym z)) qf (rw v-is at o)
+
+-- ---- the links that flags tell of
+module _ {C S E : List ℕ} {t : Trip} {W : List ℕ} {u : ℕ} {f : Flags} (i : ℕ) (ready : Ready C S E t W) (inside : u < t .k + 2) (is : FlagsOf t u f) (there : i < f .count) where
+  -- the flag
+  abbrev flag : ℕ
+  flag = getD W (f .at + f .apart * i) 0
+
+  -- It is set and its offer is made: the link has been followed.
+  pub flag-followed :
+      {T W′ T′ : List ℕ} {d a b far : ℕ} → 0 < flag → a ≡ cellAt C t u → b ≡ cellAt C t (f .to + i) → far ≡ apart (t .w) a b → Offer C t W T (f .to + i) (d + far) W′ T′ →
+      Follow C S E t W T u d (firstTold S (t .k) u + i) W′ T′
+  flag-followed h qa qb qf o =
+      let z : f .to + i + 1 - 1 ≡ f .to + i = omega arith in
+      let to = sym (rw (lt-ltb 0 flag h) at (tells i ready inside is there .link)) in
+      follow-some u (firstTold S (t .k) u + i) ready (told-there i ready inside is there) to (λ q. omega arith) qa (qb ∙ ap (cellAt C t) (sym z)) qf (rw (sym z) at o)
+
+  -- It is not set, and nothing changes.
+  pub flag-passed : {T : List ℕ} {d : ℕ} → flag ≡ 0 → Follow C S E t W T u d (firstTold S (t .k) u + i) W T
+  flag-passed z =
+      let to = sym (rw (le-ltb 0 flag (omega arith)) at (tells i ready inside is there .link)) in
+      follow-none u (firstTold S (t .k) u + i) ready (told-there i ready inside is there) to refl
 
 -- ---- a place is settled
 -- Nobody waits.

@@ -11,9 +11,11 @@ ghost use Rattle.settling.specs.Counts.{Counts, below};
 ghost use Rattle.tree.specs.Keys.{nobody, Keyed};
 ghost use Rattle.places.specs.Places.{Indexed};
 ghost use Rattle.places.specs.Chart.{chart, linkCount, net, Ready};
+ghost use Rattle.places.specs.Flagging.{firstTold, FlagsOf};
 ghost use Rattle.search.specs.Tree.{Room, Small, Right};
 ghost use Rattle.search.specs.Search.{labelsOf, limit, Near, Settling, Blank, Bounded, Run};
 ghost use Rattle.search.specs.Offers.{lowered as loweredOf, Offer, Follow, Followed, Marked, First};
+use places::Flags;
 use places::Trip;
 
 // The entry after an offer: the less of the two, where there was one.
@@ -52,30 +54,31 @@ fn offer(corners: &[u16], t: Trip, work: &mut [u32], tree: &mut [u64], v: usize,
     }
 }
 
-// Offers the place that link j of u leads to, if it leads to one, the way by u, whose entry is d.
-fn follow(
+// Offers the place that flag i of u tells of, if it is set, the way by u, whose entry is d.
+fn follow_flag(
     corners: &[u16],
     starts: &[u16],
     neighbours: &[u16],
     t: Trip,
-    table: &[u16],
     work: &mut [u32],
     tree: &mut [u64],
+    f: Flags,
     u: usize,
     d: u32,
-    j: usize,
+    i: usize,
 )
     requires ready { ⌜ Ready (now corners) (now starts) (now neighbours) t (now work) ⌝ }
     requires right { ⌜ Right (now corners) t (now work) (now tree) ⌝ }
-    requires indexed { ⌜ Indexed (now corners) (now table) ⌝ }
     requires inside { ⌜ u < t .k + 2 ⌝ }
-    requires there { ⌜ j < linkCount (chart (now corners) (now starts) (now neighbours) t (now work)) u ⌝ }
+    requires flags { ⌜ FlagsOf t u f ⌝ }
+    requires there { ⌜ i < f .count ⌝ }
     requires short { ⌜ (0 < d) × (d ≤ limit + 1) ⌝ }
-    ensures { λ r. ⌜ Follow (now (corners .entry)) (now (starts .entry)) (now (neighbours .entry)) t (now (work .entry)) (now (tree .entry)) u d j (now (work .exit)) (now (tree .exit)) ⌝ }
+    ensures { λ r. ⌜ Follow (now (corners .entry)) (now (starts .entry)) (now (neighbours .entry)) t (now (work .entry)) (now (tree .entry)) u d (firstTold (now (starts .entry)) (t .k) u + i) (now (work .exit)) (now (tree .exit)) ⌝ }
 {
-    let to = places::link_at(corners, starts, neighbours, t, table, work, u, j);
-    if to != 0 {
-        let v = to - 1;
+    let at = f.at + f.apart * i;
+    let flag = work[at];
+    if 0 < flag {
+        let v = f.to + i;
         let a = places::cell_of(corners, t, u);
         let b = places::cell_of(corners, t, v);
         let far = places::leg(t.w, a, b);
@@ -83,7 +86,7 @@ fn follow(
     }
 }
 
-// Offers each neighbour of corner u the way by u, whose entry is d, and says how many there are; 0 where u is no corner.
+// Offers each neighbour of u the way by u, whose entry is d; only a corner has any.
 fn follow_arcs(
     corners: &[u16],
     starts: &[u16],
@@ -94,17 +97,16 @@ fn follow_arcs(
     tree: &mut [u64],
     u: usize,
     d: u32,
-) -> usize
+)
     requires ready { ⌜ Ready (now corners) (now starts) (now neighbours) t (now work) ⌝ }
     requires right { ⌜ Right (now corners) t (now work) (now tree) ⌝ }
     requires indexed { ⌜ Indexed (now corners) (now table) ⌝ }
     requires inside { ⌜ u < t .k + 2 ⌝ }
     requires short { ⌜ (0 < d) × (d ≤ limit + 1) ⌝ }
-    ensures most { λ r. ⌜ r ≤ linkCount (chart (now (corners .entry)) (now (starts .entry)) (now (neighbours .entry)) t (now (work .entry))) u ⌝ }
-    ensures followed { λ r. ⌜ Followed (now (corners .entry)) (now (starts .entry)) (now (neighbours .entry)) t (now (work .entry)) (now (tree .entry)) u d r (now (work .exit)) (now (tree .exit)) ⌝ }
+    ensures { λ r. ⌜ Followed (now (corners .entry)) (now (starts .entry)) (now (neighbours .entry)) t (now (work .entry)) (now (tree .entry)) u d (firstTold (now (starts .entry)) (t .k) u) (now (work .exit)) (now (tree .exit)) ⌝ }
 {
     if t.k <= u {
-        return 0;
+        return;
     }
     let a = places::cell_of(corners, t, u);
     let first = places::wide(starts[u]);
@@ -117,10 +119,9 @@ fn follow_arcs(
         offer(corners, t, work, tree, v, d + far);
         j += 1;
     }
-    count
 }
 
-// Follows each link of u: its neighbours by the table, the others one by one.
+// Follows each link of u: its neighbours by the table, then those that flags tell of.
 fn follow_all(
     corners: &[u16],
     starts: &[u16],
@@ -139,11 +140,12 @@ fn follow_all(
     requires short { ⌜ (0 < d) × (d ≤ limit + 1) ⌝ }
     ensures { λ r. ⌜ Followed (now (corners .entry)) (now (starts .entry)) (now (neighbours .entry)) t (now (work .entry)) (now (tree .entry)) u d (linkCount (chart (now (corners .entry)) (now (starts .entry)) (now (neighbours .entry)) t (now (work .entry))) u) (now (work .exit)) (now (tree .exit)) ⌝ }
 {
-    let count = places::link_count(starts, t.k, u);
-    let mut j = follow_arcs(corners, starts, neighbours, t, table, work, tree, u, d);
-    while j < count {
-        follow(corners, starts, neighbours, t, table, work, tree, u, d, j);
-        j += 1;
+    follow_arcs(corners, starts, neighbours, t, table, work, tree, u, d);
+    let f = places::flags_of(t, u);
+    let mut i: usize = 0;
+    while i < f.count {
+        follow_flag(corners, starts, neighbours, t, work, tree, f, u, d, i);
+        i += 1;
     }
 }
 

@@ -1,55 +1,68 @@
 -- `search::follow_all` meets its contract. Assumes nothing.
 use native.Mathlib.Omega.{arith}
-use mathlib.Core.Path.{_≡_, _∙_}
-use Prim.Native.Nat.{_≤_, _-_}
+use mathlib.Core.Path.{_≡_, sym, _∙_}
+use Prim.Native.Nat.{ℕ, _≤_, _+_, _-_}
+use borrow.Author.Needs.{needs}
+use Rattle.places.specs.Chart.{chart, linkCount}
+use Rattle.places.specs.Flagging.{firstTold}
 use Rattle.places.proofs.Charts.{ready-kept}
+use Rattle.places.proofs.Told.{told-all}
 use Rattle.search.proofs.Follows.{Following, following-first, following-more}
 use Rattle.search.proofs.follow_all.Statement.{statement}
 use Rattle.search.proofs.follow_all.Tie as tie
 
 abbrev Inv-loop : tie.InvT-loop
-Inv-loop corners starts neighbours t table work₀ tree₀ u d count j₀ work tree j = (j ≤ count) × Following corners starts neighbours t work₀ tree₀ u d j₀ j work tree
+Inv-loop corners starts neighbours t table work₀ tree₀ u d f i₀ work tree i =
+    (i ≤ f .count) × Following corners starts neighbours t work₀ tree₀ u d (firstTold starts (t .k) u) (firstTold starts (t .k) u + i) work tree
 
 abbrev μ-loop : tie.MeasureT-loop
-μ-loop corners starts neighbours t table work₀ tree₀ u d count j₀ work tree j = count - j
-
-link-count-requires : tie.Need-link-count-requires Inv-loop μ-loop
-link-count-requires c κs = c .before .before .before .before .before .before .pre .0 .fair .rows
+μ-loop corners starts neighbours t table work₀ tree₀ u d f i₀ work tree i = f .count - i
 
 follow-arcs-requires : tie.Need-follow-arcs-requires Inv-loop μ-loop
-follow-arcs-requires c κs = c .before .before .before .before .before .before .before .before .before .pre
+follow-arcs-requires c κs =
+    c .before .before .before .before .before .before .before .before .pre
+
+flags-of-requires : tie.Need-flags-of-requires Inv-loop μ-loop
+flags-of-requires c κs =
+    (c .before .before .before .before .before .before .before .before .before .before .before .before .before .pre .0 .fair .few, c .before .before .before .before .before .before .before .before .before .before .before .before .before .pre .1 .1 .1 .0)
 
 loop-holds : tie.Need-loop-holds Inv-loop μ-loop
 loop-holds c =
-    let f = c .before .before .before .before .follow-arcs .ensures in
-    (omega (arith, f .0, c .before .before .before .before .before .before .before .link-count .ensures), following-first (ready-kept (c .before .before .before .before .before .before .before .before .before .before .before .before .before .before .pre .0) (f .1 .left)) (f .1 .right))
+    let f = c .before .before .before .before .before .follow-arcs .ensures in
+    (omega arith, following-first (omega arith) (ready-kept (c .before .before .before .before .before .before .before .before .before .before .before .before .before .before .pre .0) (f .left)) (f .right))
 
-follow-requires : tie.Need-follow-requires Inv-loop μ-loop
-follow-requires c κs =
-    let f = c .before .before .before .loop .inv .1 in
-    let p = c .before .before .before .before .before .before .before .before .before .before .before .before .before .before .before .before .before .before .pre .1 .1 .1 in
-    (f .ready, (f .right, (c .before .before .before .before .before .before .before .before .before .before .before .before .before .before .before .before .before .before .pre .1 .1 .0, (p .0, (omega (arith, c .before .before .before .before .before .before .before .before .before .before .before .link-count .ensures), p .1)))))
+follow-flag-requires : tie.Need-follow-flag-requires Inv-loop μ-loop
+follow-flag-requires c κs =
+    let p = c .before .before .before .before .before .before .before .before .before .before .before .before .before .before .before .before .before .before .before .pre in
+    let f = c .before .before .before .before .loop .inv .1 in
+    (f .ready, (f .right, (p .1 .1 .1 .0, (c .before .before .before .before .before .flags-of .ensures, (omega arith, p .1 .1 .1 .1)))))
 
-add-j : tie.Need-add-j Inv-loop μ-loop
-add-j c = omega arith
+add-i : tie.Need-add-i Inv-loop μ-loop
+add-i c = omega arith
 
 loop-less : tie.Need-loop-less Inv-loop μ-loop
 loop-less c = omega arith
 
 loop-again : tie.Need-loop-again Inv-loop μ-loop
-loop-again c = (omega arith, following-more (c .before .before .before .before .before .before .before .before .loop .inv .1) (c .before .before .before .before .before .before .before .before .before .before .before .before .before .before .before .before .before .before .before .before .before .before .before .pre .1 .1 .1 .1 .0) (c .before .before .before .before .follow .ensures))
+loop-again c =
+    let l = c .before .before .before .before .before .before .before .before .before .loop in
+    let z : firstTold (c .before .before .before .before .before .before .before .before .before .before .before .before .before .before .before .before .before .before .before .before .before .before .before .before .args .starts .now) (c .before .before .before .before .before .before .before .before .before .before .before .before .before .before .before .before .before .before .before .before .before .before .before .before .args .t .k) (c .before .before .before .before .before .before .before .before .before .before .before .before .before .before .before .before .before .before .before .before .before .before .before .before .args .u) + l .i + 1 ≡ firstTold (c .before .before .before .before .before .before .before .before .before .before .before .before .before .before .before .before .before .before .before .before .before .before .before .before .args .starts .now) (c .before .before .before .before .before .before .before .before .before .before .before .before .before .before .before .before .before .before .before .before .before .before .before .before .args .t .k) (c .before .before .before .before .before .before .before .before .before .before .before .before .before .before .before .before .before .before .before .before .before .before .before .before .args .u) + (l .i + 1) = omega arith in
+    (omega arith, rw z at (following-more (l .inv .1) (c .before .before .before .before .before .before .before .before .before .before .before .before .before .before .before .before .before .before .before .before .before .before .before .before .pre .1 .1 .1 .1 .0) (c .before .before .before .before .follow-flag .ensures)))
 
 same-length : tie.Need-same-length Inv-loop μ-loop
-same-length c = c .before .loop .inv .1 .sized ∙ c .before .before .before .before .before .before .follow-arcs .ensures .1 .left .sized
+same-length c =
+    c .before .before .loop .inv .1 .sized ∙ c .before .before .before .before .before .before .before .before .follow-arcs .ensures .left .sized
 
 same-length-2 : tie.Need-same-length-2 Inv-loop μ-loop
-same-length-2 c = c .before .loop .inv .1 .tree ∙ c .before .before .before .before .before .before .follow-arcs .ensures .1 .tree
+same-length-2 c =
+    c .before .before .loop .inv .1 .tree ∙ c .before .before .before .before .before .before .before .before .follow-arcs .ensures .tree
 
 returns : tie.Need-returns Inv-loop μ-loop
 returns c =
-    let f = c .before .loop .inv in
-    let q : c .before .loop .j ≡ c .before .before .before .before .before .before .before .before .before .link-count .result = omega (arith, f .0) in
-    rw (q ∙ c .before .before .before .before .before .before .before .before .before .link-count .ensures) at (f .1 .followed _ _ (c .before .before .before .before .before .before .follow-arcs .ensures .1))
+    let a = c .before .before .before .before .before .before .before .before .before .before .before .before .before .before .before .before .before .args in
+    let l = c .before .before .loop in
+    let q : firstTold (a .starts .now) (a .t .k) (a .u) + l .i ≡ linkCount (chart (a .corners .now) (a .starts .now) (a .neighbours .now) (a .t) (a .work .now)) (a .u) = omega (arith, l .inv .0, c .before .before .before .flags-of .ensures .count, told-all (a .corners .now) (a .starts .now) (a .neighbours .now) (a .t) (a .work .now) (a .u)) in
+    rw q at (l .inv .1 .followed _ _ (c .before .before .before .before .before .before .before .before .follow-arcs .ensures))
 
 pub follow-all-spec : {M : Type 1} → statement M
 follow-all-spec =
@@ -57,11 +70,11 @@ follow-all-spec =
     (tie.spec
     Inv-loop
     μ-loop
-    link-count-requires
     follow-arcs-requires
+    flags-of-requires
     loop-holds
-    follow-requires
-    add-j
+    follow-flag-requires
+    add-i
     loop-less
     loop-again
     same-length

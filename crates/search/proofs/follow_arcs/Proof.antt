@@ -1,9 +1,10 @@
 -- `search::follow_arcs` meets its contract. Assumes nothing.
 use native.Mathlib.Omega.{arith}
 use borrow.Author.Needs.{needs}
-use mathlib.Core.Path.{_≡_}
+use mathlib.Core.Path.{_≡_, refl, sym, _∙_}
 use Prim.Native.Nat.{_≤_, _-_}
-use Rattle.places.proofs.Charts.{arcs-most, arc-within, arc-entry, arc-place, arc-cells}
+use Rattle.places.proofs.Told.{told-corner, told-end}
+use Rattle.places.proofs.Charts.{arc-within, arc-entry, arc-place, arc-cells}
 use Rattle.search.proofs.Follows.{ready-room, followed-none, Following, following-first, following-more, arc-followed}
 use Rattle.search.proofs.follow_arcs.Statement.{statement}
 use Rattle.search.proofs.follow_arcs.Tie as tie
@@ -15,7 +16,9 @@ abbrev μ-loop : tie.MeasureT-loop
 μ-loop corners starts neighbours t table work₀ tree₀ u d a first count j₀ work tree j = count - j
 
 returns : tie.Need-returns Inv-loop μ-loop
-returns c = (omega arith, followed-none _ _ (c .before .before .before .before .before .before .before .before .pre .1 .0))
+returns c =
+    let a = c .before .before .before .before .before .before .before .before .args in
+    rw (told-end (a .corners .now) (a .starts .now) (a .neighbours .now) (a .t) (a .work .now) (a .u) (omega arith)) (followed-none _ _ (c .before .before .before .before .before .before .before .before .pre .1 .0))
 
 cell-of-requires : tie.Need-cell-of-requires Inv-loop μ-loop
 cell-of-requires c κs = c .before .before .before .before .before .before .before .before .pre .0 .fair .corners
@@ -32,7 +35,7 @@ arc-count-requires c κs =
     (omega (arith, rows .starts), rows .rising (c .before .before .before .before .before .before .before .before .before .before .before .args .u) (omega arith))
 
 loop-holds : tie.Need-loop-holds Inv-loop μ-loop
-loop-holds c = (omega arith, following-first (c .before .before .before .before .before .before .before .before .before .before .before .before .pre .0) (c .before .before .before .before .before .before .before .before .before .before .before .before .pre .1 .0))
+loop-holds c = (omega arith, following-first refl (c .before .before .before .before .before .before .before .before .before .before .before .before .pre .0) (c .before .before .before .before .before .before .before .before .before .before .before .before .pre .1 .0))
 
 add-wide : tie.Need-add-wide Inv-loop μ-loop
 add-wide c = omega (arith, c .before .before .before .wide .ensures .1, c .before .before .arc-count .ensures .1)
@@ -89,8 +92,8 @@ returns-2 c =
     let a = c .before .before .before .before .before .before .before .before .before .before .before .before .before .before .args in
     let f = c .before .loop .inv in
     let q : c .before .loop .j ≡ c .before .before .arc-count .result = omega (arith, f .0) in
-    let most = arcs-most (a .corners .now) (a .starts .now) (a .neighbours .now) (a .t) (a .work .now) (a .u) (omega arith) in
-    (omega (arith, most, c .before .before .arc-count .ensures .0), rw q at (f .1 .followed _ _ (followed-none _ _ (c .before .before .before .before .before .before .before .before .before .before .before .before .before .before .pre .1 .0))))
+    let z = told-corner (a .corners .now) (a .starts .now) (a .neighbours .now) (a .t) (a .work .now) (a .u) (omega arith) in
+    rw (q ∙ c .before .before .arc-count .ensures .0 ∙ sym z) at (f .1 .followed _ _ (followed-none _ _ (c .before .before .before .before .before .before .before .before .before .before .before .before .before .before .pre .1 .0)))
 
 pub follow-arcs-spec : {M : Type 1} → statement M
 follow-arcs-spec =
