@@ -33,18 +33,23 @@ cleared-again n W W′ b =
 
 -- ---- a question that is ready
 module _ (a : Asked) (q : Unrefused a) where
+  -- the start's cell stands at the start's column and row
   start-place : placeOf (a .w) (startCell a) ≡ at (a .sx) (a .sy)
   start-place = place-of-number (a .w) (a .sx) (a .sy) (q .start-column)
 
+  -- the goal's cell stands at the goal's column and row
   goal-place : placeOf (a .w) (goalCell a) ≡ at (a .gx) (a .gy)
   goal-place = place-of-number (a .w) (a .gx) (a .gy) (q .goal-column)
 
+  -- the start's column is inside, and the rows up to its own have at most 16,384 cells
   pub start-cell : Cell (a .w) (a .sx) (a .sy)
   start-cell = cell-in (a .w) (a .h) (a .sx) (a .sy) (q .floor .few-cells) (q .start-column) (q .start-row)
 
+  -- the goal's column is inside, and the rows up to its own have at most 16,384 cells
   pub goal-cell : Cell (a .w) (a .gx) (a .gy)
   goal-cell = cell-in (a .w) (a .h) (a .gx) (a .gy) (q .floor .few-cells) (q .goal-column) (q .goal-row)
 
+  -- no column or row of start or goal is above 255
   pub small-ends : (a .sx ≤ 255) × (a .sy ≤ 255) × (a .gx ≤ 255) × (a .gy ≤ 255)
   small-ends =
       let x = q .floor .sized .wide in
@@ -59,11 +64,13 @@ module _ (a : Asked) (q : Unrefused a) where
   abbrev Clear : Place → Place → Type 0
   Clear s t = Legal walkers (board (a .w) (a .h) (a .words)) s (line s t)
 
+  -- a direct line that is legal from the start's column and row to the goal's is legal between their cells
   line-clear : Clear (at (a .sx) (a .sy)) (at (a .gx) (a .gy)) → LineClear (a .w) (a .h) (a .words) (startCell a) (goalCell a)
   line-clear l =
       subst (λ (s : Place). Clear s (placeOf (a .w) (goalCell a))) (sym start-place)
       (subst (λ (t : Place). Clear (at (a .sx) (a .sy)) t) (sym goal-place) l)
 
+  -- and one that is not is not legal between their cells either
   line-barred : ¬ (Clear (at (a .sx) (a .sy)) (at (a .gx) (a .gy))) → ¬ (LineClear (a .w) (a .h) (a .words) (startCell a) (goalCell a))
   line-barred n l =
       n (subst (λ (t : Place). Clear (at (a .sx) (a .sy)) t) goal-place (subst (λ (s : Place). Clear s (placeOf (a .w) (goalCell a))) start-place l))
@@ -80,9 +87,11 @@ module _ (a : Asked) (q : Unrefused a) where
 
   -- by the search
   module _ (n : ¬ (Clear (at (a .sx) (a .sy)) (at (a .gx) (a .gy)))) where
+    -- the start's cell is free
     start-open : Free (board (a .w) (a .h) (a .words)) (placeOf (a .w) (startCell a))
     start-open = subst (Free (board (a .w) (a .h) (a .words))) (sym start-place) (q .start-free)
 
+    -- the question has all that a search takes
     pub searchable : Searchable (a .w) (a .h) (a .words) (a .plan) (startCell a) (goalCell a) (a .work)
     searchable =
         record {
@@ -100,6 +109,7 @@ module _ (a : Asked) (q : Unrefused a) where
           room = q .room;
         }
 
+    -- what the search answers, once the work space is cleared again, is what the query comes to
     pub by-search : (r : Answer) (route₁ work₁ work₂ : List ℕ) →
         SearchAnswer (a .w) (a .h) (a .words) (a .plan) (startCell a) (goalCell a) r (a .route) route₁ → Beyond (workSize a) (a .work) work₁ →
         work₂ ≡ written (replicate (workSize a) 0) work₁ → LateOutcome a r route₁ work₂

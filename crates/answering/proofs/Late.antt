@@ -20,6 +20,7 @@ use Rattle.answering.specs.Answers.{Measured, RouteLeft, LineAnswer, Sea
 use Rattle.answering.specs.declared.Answer.{Answer}
 
 module _ (a : Asked) where
+  -- the direct line from start to goal is legal
   abbrev Line : Type 0
   Line = LineClear (a .w) (a .h) (a .words) (startCell a) (goalCell a)
 
@@ -27,12 +28,15 @@ module _ (a : Asked) where
   module _ (r : Answer) (far : Len) (shortest : Distance a far) (measured : Measured r far) (billed : Billed a (r .effort)) (cells : List ℕ)
       (is-route : RouteOf (a .w) (a .h) (a .words) (startCell a) (goalCell a) cells) (route₁ : List ℕ) (left : RouteLeft r cells (a .route) route₁ far)
       (work₁ : List ℕ) (cleared : work₁ ≡ written (replicate (workSize a) 0) (a .work)) where
+    -- it cannot be that no walk leads to the goal
     some-walk : ¬ (NoWalk walkers (board (a .w) (a .h) (a .words)) (placeOf (a .w) (startCell a)) (placeOf (a .w) (goalCell a)))
     some-walk n = let s = shortest .some in n (s .0) (s .1)
 
+    -- the numbers of the answer are those of the walk
     got : WalkFound a r
     got = record { far = far; shortest = shortest; straight = measured .straight; diagonal = measured .diagonal; cells = measured .cells; billed = billed }
 
+    -- so the answer is 0 and the route is written, or it is 13 where the route has no room
     pub late-found : LateOutcome a r route₁ work₁
     late-found = by (decLe (cellsOf far) (length (a .route)))
       where
@@ -48,6 +52,7 @@ module _ (a : Asked) where
               work-cleared = cleared;
             }
           where
+            -- where the route has room, refusal 13 does not apply
             no-less : cellsOf far ≤ length (a .route) → ¬ ((l : Len) × Distance a l × (length (a .route) < cellsOf l))
             no-less l s =
                 let e = ap cellsOf (shortest-unique (s .1) shortest) in

@@ -37,9 +37,11 @@ zero-front (suc n) ys (suc i) l = zero-front n ys i (omega arith)
 pub cleared-empty : (n : ℕ) (W W′ : List ℕ) → 6 * n ≤ length W → W′ ≡ written (replicate (6 * n) 0) W → (c : ℕ) → c < 6 → Empty n c W′
 cleared-empty n W W′ room e c l i = by (decLe (suc i) n)
   where
+    -- the work space is as long as it was
     long : length W′ ≡ length W
     long = ap length e ∙ zeroed-length W (6 * n) room
 
+    -- each entry of a column is among the first that were set to 0
     inside : i < n → c * n + i < 6 * n
     inside m =
         subst (λ (x : ℕ). c * n + i < x) (length-replicate (6 * n) 0)
@@ -67,6 +69,7 @@ module _ {w h : ℕ} {words : List ℕ} {p : Lists} {start goal : ℕ} {W : List
 
   module _ {t : Trip} {W₁ W₂ : List ℕ} (long : length W₁ ≡ length W) (ready : Prepared w h words p start goal t W₁ W₂) where
     -- ---- a prepared work space
+    -- the search has the fair chart and the room that it needs
     pub search-ready : Ready (p .corners) (p .starts) (p .neighbours) t W₂
     search-ready =
         record {
@@ -74,9 +77,11 @@ module _ {w h : ℕ} {words : List ℕ} {p : Lists} {start goal : ℕ} {W : List
           room = let r = able .room in let s = ready .sized in let c = ready .count in omega arith;
         }
 
+    -- no shortest chain is so long that its label would not fit
     pub search-bounded : Bounded (chart (p .corners) (p .starts) (p .neighbours) t W₂)
     search-bounded = bounded (ready .charted)
 
+    -- what the trip is over: the floor, its plan, and start and goal by cell number
     abbrev journey : Journey
     journey = record { w = w; h = h; words = words; plan = p; start = start; goal = goal }
 
@@ -96,6 +101,7 @@ module _ {w h : ℕ} {words : List ℕ} {p : Lists} {start goal : ℕ} {W : List
       few-settled = let l = run .outcome .within in let f = search-ready .fair .few in omega arith
 
       module _ (found : 0 < getD (columnOf (t .k + 2) W₃ Settled) (t .to) 0) where
+        -- the goal has its flag, so it is settled
         settled : labelsOf (t .k + 2) W₃ .settled (t .to) ≡ true
         settled = lt-ltb 0 _ found
 
@@ -122,6 +128,7 @@ module _ {w h : ℕ} {words : List ℕ} {p : Lists} {start goal : ℕ} {W : List
 
       -- what lies beyond the work space is as it was before it was cleared
       module _ (cleared : W₁ ≡ written (replicate (6 * (length (p .corners) + 2)) 0) W) where
+        -- after the search, nothing beyond the trip's entries has changed
         pub lost-beyond : Beyond (6 * (length (p .corners) + 2)) W W₃
         lost-beyond =
             record {

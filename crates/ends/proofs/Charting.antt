@@ -49,9 +49,11 @@ module _ (w h : ℕ) (words corners : List ℕ) (cell n c : ℕ) (W : List ℕ) 
 
 -- ---- what is seen is direct
 module _ (w h : ℕ) (words : List ℕ) where
+  -- a cell is direct to what is seen from it
   pub seen-direct : (s t : ℕ) → Seen w h words s t → DirectCells w h words s t
   seen-direct s t seen = shown-direct (padded w h words) (seen .field) (seen .field-in) (seen .shown .1 .shows)
 
+  -- every other corner that a cell is direct to is seen from it
   pub direct-seen : (s t : ℕ) → t < w * h → cornerCell w h words t ≡ true → s ≢ t → DirectCells w h words s t → Seen w h words s t
   direct-seen s t l turns other direct =
       let (f, lf, n, shows, own) = direct-shown (padded w h words) (placeOf w s) (placeOf w t) direct turns (λ e. other (same-cell w s t e)) in
@@ -59,6 +61,7 @@ module _ (w h : ℕ) (words : List ℕ) where
 
 -- ---- the chart
 module _ (w h : ℕ) (words : List ℕ) (p : Lists) (start goal : ℕ) (W : List ℕ) (able : Searchable w h words p start goal W) where
+  -- the lists are the floor's own plan
   own : PlanOf w h words p
   own = able .fits .own
 
@@ -87,6 +90,7 @@ module _ (w h : ℕ) (words : List ℕ) (p : Lists) (start goal : ℕ) (W : List
   -- a cell that is no corner has a place of its own, and a corner that of its index
   module _ (cell place last : ℕ) (inside : cell < w * h) (at-corner : indexOf (p .corners) cell < length (p .corners) → place ≡ indexOf (p .corners) cell)
       (at-other : length (p .corners) ≤ indexOf (p .corners) cell → place ≡ last) (behind : length (p .corners) ≤ last) where
+    -- where the cell is no corner, its place is the one behind the corners
     other-place : cornerCell w h words cell ≡ false → place ≡ last
     other-place f = by (decLe (length (p .corners)) (indexOf (p .corners) cell))
       where
@@ -94,6 +98,7 @@ module _ (w h : ℕ) (words : List ℕ) (p : Lists) (start goal : ℕ) (W : List
         by (yes l) = at-other l
         by (no l) = not-both (index-corner own cell (omega (arith, l))) f
 
+    -- where it is a corner, its place is its index among them
     corner-place : cornerCell w h words cell ≡ true → place ≡ indexOf (p .corners) cell
     corner-place t = at-corner (corner-index own cell inside t)
 
@@ -113,6 +118,7 @@ module _ (w h : ℕ) (words : List ℕ) (p : Lists) (start goal : ℕ) (W : List
   module _ (t : Trip) (trip : TripOf w (p .corners) start goal t) (A B : List ℕ)
       (one : EndFlags w h words (p .corners) start (t .k + 2) ByStart W A)
       (two : EndFlags w h words (p .corners) goal (t .k + 2) ByGoal A B) where
+    -- how many entries a column has
     abbrev n : ℕ
     n = t .k + 2
 
@@ -120,12 +126,15 @@ module _ (w h : ℕ) (words : List ℕ) (p : Lists) (start goal : ℕ) (W : List
     untouched : (c : ℕ) → c ≢ ByStart → c ≢ ByGoal → columnOf n B c ≡ columnOf n W c
     untouched c d e = two .only .others c e ∙ one .only .others c d
 
+    -- a start that is listed as a corner has its index as its place
     from-corner : indexOf (p .corners) start < length (p .corners) → t .from ≡ indexOf (p .corners) start
     from-corner l = trip .from
 
+    -- any other start has the first place behind the corners
     from-other : length (p .corners) ≤ indexOf (p .corners) start → t .from ≡ t .k
     from-other l = let m = index-most (p .corners) start in trip .from ∙ sym (trip .count ∙ omega arith)
 
+    -- a goal that is not listed as a corner has the second place behind them
     to-other : length (p .corners) ≤ indexOf (p .corners) goal → t .to ≡ t .k + 1
     to-other l =
         let m = index-most (p .corners) goal in
@@ -135,6 +144,7 @@ module _ (w h : ℕ) (words : List ℕ) (p : Lists) (start goal : ℕ) (W : List
     start-column : columnOf n B ByStart ≡ columnOf n A ByStart
     start-column = two .only .others ByStart (λ e. omega arith)
 
+    -- so the work space charts the trip
     pub charted : Charted w h words p start goal (chart (p .corners) (p .starts) (p .neighbours) t B)
     charted =
         record {
@@ -165,6 +175,7 @@ module _ (w h : ℕ) (words : List ℕ) (p : Lists) (start goal : ℕ) (W : List
               end-direct goal n ByGoal A B two i (omega arith);
         }
 
+    -- where every column was empty before the flags were set, the work space is ready for the search
     pub prepared : ((c : ℕ) → c < 6 → Empty n c W) → Prepared w h words p start goal t W B
     prepared empty =
         record {

@@ -37,6 +37,7 @@ module _ (P : ℕ → Type 0) (corners : List ℕ) (n c : ℕ) where
 
   module _ (W : List ℕ) (room : FlagRoom corners n c W) (t : ℕ) (has : P t) (listed : indexOf corners t < length corners)
       (W′ : List ℕ) (put : Put n W c (indexOf corners t) 1 W′) where
+    -- the corner has an entry in the column
     inside : indexOf corners t < length (columnOf n W c)
     inside = let e = room .count in rw (column-length n W c (room .column) (room .room)) (omega arith)
 
@@ -48,13 +49,16 @@ module _ (P : ℕ → Type 0) (corners : List ℕ) (n c : ℕ) where
     pub flagging-one : Flagging P corners n c W W′
     flagging-one = record { only = put .only; kept = λ i f. kept i f (ℕ-discrete i (indexOf corners t)); new = λ i l f. new i f (ℕ-discrete i (indexOf corners t)) }
       where
+        -- the entry of any other corner is as it was
         other : (i : ℕ) → ¬ (i ≡ indexOf corners t) → getD (columnOf n W′ c) i 0 ≡ getD (columnOf n W c) i 0
         other i d = rw (put .here) (getD-set-other (columnOf n W c) (indexOf corners t) i 1 0 d)
 
+        -- a flag that was set is still set
         kept : (i : ℕ) → Flag n c W i → Dec (i ≡ indexOf corners t) → Flag n c W′ i
         kept i f (yes e) = rw e put-flag
         kept i f (no d) = rw (other i d) f
 
+        -- a flag that is set now was set before, or its corner has the property
         new : (i : ℕ) → Flag n c W′ i → Dec (i ≡ indexOf corners t) → Flag n c W i ⊎ P (getD corners i 0)
         new i f (yes e) = inr (subst P (sym (ap (λ (j : ℕ). getD corners j 0) e ∙ index-at corners t listed)) has)
         new i f (no d) = inl (rw (other i d) at f)

@@ -116,6 +116,7 @@ module _ (𝓒 : Chart) where
       pub start : v ≡ 𝓒 .trip .k → 𝓒 .trip .from ≡ 𝓒 .trip .k
       pub goal : v ≡ 𝓒 .trip .k + 1 → 𝓒 .trip .to ≡ 𝓒 .trip .k + 1
 
+    -- Every corner is in use.
     used-corner : (v : ℕ) → v < 𝓒 .trip .k → Used v
     used-corner v h = record { inside = omega arith; start = λ q. absurd (omega arith); goal = λ q. absurd (omega arith) }
 

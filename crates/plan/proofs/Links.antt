@@ -27,11 +27,13 @@ part-rest xs ys = rw (drop-append-seam xs ys) (take-all (length (xs ++ ys) - len
 pub up-to : (xs : List ℕ) (n : ℕ) → ((k : ℕ) → k < n → getD xs k 0 ≤ getD xs (suc k) 0) → (k : ℕ) → k ≤ n → getD xs k 0 ≤ getD xs n 0
 up-to xs n rising k l = up (n - k) k (omega arith)
   where
+    -- the same, by how far k is from n
     up : (j k : ℕ) → j + k ≡ n → getD xs k 0 ≤ getD xs n 0
     up zero k e = let z : k ≡ n = omega arith in rw z (omega arith)
     up (suc j) k e = le-trans (rising k (omega arith)) (up j (suc k) (omega arith))
 
 module _ (K : Kind) (w h : ℕ) (words corners : List ℕ) where
+  -- the row of turning point n: those that are linked to it, in their order
   abbrev pub Row : ℕ → List ℕ → Type 0
   Row n row = Picked (LinkedCells K w h words (getD corners n 0)) corners row
 
@@ -39,6 +41,7 @@ module _ (K : Kind) (w h : ℕ) (words corners : List ℕ) where
   pub start-in : {n : ℕ} {starts ns : List ℕ} → LinksTo K w h words corners n starts ns → (k : ℕ) → k ≤ n → getD starts k 0 ≤ length ns
   start-in {n} {starts} {ns} l k m = rw (← l .last) (up-to starts n (l .rising) k m)
 
+  -- starts and neighbours of the first n turning points, built row by row
   pub data Built : ℕ → List ℕ → List ℕ → Type 0 where
     none : Built 0 (0 ∷ []) []
     more : {n : ℕ} {starts ns row : List ℕ} → Built n starts ns → Row n row → Built (suc n) (starts ++ (length (ns ++ row) ∷ [])) (ns ++ row)
@@ -58,16 +61,20 @@ module _ (K : Kind) (w h : ℕ) (words corners : List ℕ) where
       all : List ℕ
       all = starts ++ (length (ns ++ row) ∷ [])
 
+      -- the starts up to n are as they were
       old : (k : ℕ) → k ≤ n → getD (starts ++ (length (ns ++ row) ∷ [])) k 0 ≡ getD starts k 0
       old k m = List·getD-append starts (length (ns ++ row) ∷ []) 0 k (let e = l .one-more in omega arith)
 
+      -- the new start is where the neighbours end
       new : getD (starts ++ (length (ns ++ row) ∷ [])) (suc n) 0 ≡ length (ns ++ row)
       new = getD-at starts (length (ns ++ row)) [] 0 (suc n) (l .one-more)
 
+      -- no start is above the next
       rising : (k : ℕ) → k < suc n → Dec (k ≡ n) → getD (starts ++ (length (ns ++ row) ∷ [])) k 0 ≤ getD (starts ++ (length (ns ++ row) ∷ [])) (suc k) 0
       rising k m (yes e) = rw (e, old n (omega arith), new, l .last) (omega (arith, length-append ns row))
       rising k m (no d) = rw (old k (omega arith), old (suc k) (omega (arith, d))) (l .rising k (omega (arith, d)))
 
+      -- each turning point up to n has its row
       rows : (k : ℕ) → k < suc n → Dec (k ≡ n) →
           Row k (part (ns ++ row) (getD (starts ++ (length (ns ++ row) ∷ [])) k 0) (getD (starts ++ (length (ns ++ row) ∷ [])) (suc k) 0))
       rows k m (yes e) = rw (e, old n (omega arith), new, l .last, part-rest ns row) r
@@ -75,6 +82,7 @@ module _ (K : Kind) (w h : ℕ) (words corners : List ℕ) where
           let q : k < n = omega (arith, d) in
           rw (old k (omega arith), old (suc k) (omega arith), part-append ns row _ _ (l .rising k q) (start-in l (suc k) q)) (l .row k q)
 
+  -- what is built is what the definition says
   pub built-links : {n : ℕ} {starts ns : List ℕ} → Built n starts ns → LinksTo K w h words corners n starts ns
   built-links none = record { one-more = refl; first = refl; last = refl; rising = λ k m. absurd (omega arith); row = λ k m. absurd (omega arith) }
   built-links (more b r) = links-more (built-links b) r
@@ -91,26 +99,32 @@ module _ (K : Kind) (w h : ℕ) (words corners : List ℕ) where
         row = λ k m. rw (same k (omega arith), same (suc k) m) (subst (Row k) (cut k m) (l .row k (omega arith)));
       }
     where
+      -- the starts up to n are the same
       same : (k : ℕ) → k ≤ n → getD (take (suc n) starts) k 0 ≡ getD starts k 0
       same k m = getD-take (suc n) starts k 0 (omega arith)
 
+      -- none of them is above the last
       below : (k : ℕ) → k ≤ n → getD starts k 0 ≤ getD starts n 0
       below = up-to starts n (λ k m. l .rising k (omega arith))
 
+      -- the rows of the first n are the same in what is left of the neighbours
       cut : (k : ℕ) → k < n → part ns (getD starts k 0) (getD starts (suc k) 0) ≡ part (take (getD starts n 0) ns) (getD starts k 0) (getD starts (suc k) 0)
       cut k m =
           ap (λ (xs : List ℕ). part xs (getD starts k 0) (getD starts (suc k) 0)) (sym (take-append-drop (getD starts n 0) ns))
           ∙ part-append (take (getD starts n 0) ns) (drop (getD starts n 0) ns) _ _ (l .rising k (omega arith))
           (rw (length-take-le (getD starts n 0) ns (start-in l n (omega arith))) (below (suc k) m))
 
+  -- and what the definition says is built
   pub links-built : (n : ℕ) (starts ns : List ℕ) → LinksTo K w h words corners n starts ns → Built n starts ns
   links-built zero starts ns l = subst₂ (λ (s m : List ℕ). Built 0 s m) (single starts (l .one-more) (l .first)) (nothing ns (sym (l .last) ∙ l .first)) none
     where
+      -- a list with one entry that is 0 is the list of 0 alone
       single : (s : List ℕ) → length s ≡ 1 → getD s 0 0 ≡ 0 → 0 ∷ [] ≡ s
       single [] e f = absurd (omega arith)
       single (x ∷ []) e f = ap (λ (y : ℕ). y ∷ []) (sym f)
       single (x ∷ y ∷ s) e f = absurd (omega arith)
 
+      -- a list of length 0 is empty
       nothing : (s : List ℕ) → length s ≡ 0 → [] ≡ s
       nothing [] e = refl
       nothing (x ∷ s) e = absurd (omega arith)
@@ -118,6 +132,7 @@ module _ (K : Kind) (w h : ℕ) (words corners : List ℕ) where
       let b : Built n (take (suc n) starts) (take (getD starts n 0) ns) = links-built n _ _ (links-fewer n starts ns l) in
       subst₂ (λ (s m : List ℕ). Built (suc n) s m) starts-whole whole (more b (l .row n (omega arith)))
     where
+      -- the neighbours of the first n, and the last row, make all neighbours
       whole : take (getD starts n 0) ns ++ part ns (getD starts n 0) (getD starts (suc n) 0) ≡ ns
       whole =
           ap (λ (xs : List ℕ). take (getD starts n 0) ns ++ xs)
@@ -125,6 +140,7 @@ module _ (K : Kind) (w h : ℕ) (words corners : List ℕ) where
           (omega (arith, length-drop (getD starts n 0) ns, l .last)))
           ∙ take-append-drop (getD starts n 0) ns
 
+      -- the starts up to n, and where the neighbours end, make all starts
       starts-whole : take (suc n) starts ++ (length (take (getD starts n 0) ns ++ part ns (getD starts n 0) (getD starts (suc n) 0)) ∷ []) ≡ starts
       starts-whole =
           ap (λ (m : ℕ). take (suc n) starts ++ (m ∷ [])) (ap length whole ∙ sym (l .last))

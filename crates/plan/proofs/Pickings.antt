@@ -66,6 +66,7 @@ module _ {P : ℕ → Type 0} where
   rising-picked xs ys p q f g =
       subst (λ (l : List ℕ). Picked P xs l) (rising-same (z .0) ys (picked-rising (z .1) p) q there back) (z .1)
     where
+      -- something is picked from numbers that all stand in xs, by looking for each in ys
       pick : (zs : List ℕ) → ((t : ℕ) → In t zs → In t xs) → (l : List ℕ) × Picked P zs l
       pick [] h = ([], none)
       pick (z ∷ zs) h = by (in-dec z ys) (pick zs (λ t i. h t (inr i)))
@@ -74,12 +75,15 @@ module _ {P : ℕ → Type 0} where
           by (yes i) r = (z ∷ r .0, taken (f z i .1) (r .1))
           by (no n) r = (r .0, passed (λ a. n (g z (h z (inl refl)) a)) (r .1))
 
+      -- so something is picked from xs
       z : (l : List ℕ) × Picked P xs l
       z = pick xs (λ t i. i)
 
+      -- what was picked stands in ys
       there : (t : ℕ) → In t (z .0) → In t ys
       there t i = let r = picked-in (z .1) t i in g t (r .0) (r .1)
 
+      -- what stands in ys was picked
       back : (t : ℕ) → In t ys → In t (z .0)
       back t i = let r = f t i in in-picked (z .1) t (r .0) (r .1)
 
@@ -89,11 +93,13 @@ in-append t [] ys i = inr i
 in-append t (x ∷ xs) ys (inl e) = inl (inl e)
 in-append t (x ∷ xs) ys (inr i) = ⊎-elim (λ k. inl (inr k)) inr (in-append t xs ys i)
 
+-- what stands in the first of two lists stands in the two one after the other
 pub in-first : (t : ℕ) (xs ys : List ℕ) → In t xs → In t (xs ++ ys)
 in-first t [] ys i = absurd i
 in-first t (x ∷ xs) ys (inl e) = inl e
 in-first t (x ∷ xs) ys (inr i) = inr (in-first t xs ys i)
 
+-- so does what stands in the second
 pub in-second : (t : ℕ) (xs ys : List ℕ) → In t ys → In t (xs ++ ys)
 in-second t [] ys i = i
 in-second t (x ∷ xs) ys i = inr (in-second t xs ys i)
@@ -108,16 +114,19 @@ rising-snoc (x ∷ xs) n r f = (
 
 -- ---- the numbers below n that pass a test
 module _ (f : ℕ → Bool) where
+  -- each of them is below n and passes the test
   pub select-in : (n t : ℕ) → In t (select f n) → (t < n) × (f t ≡ true)
   unfolding select
   select-in zero t i = absurd i
   select-in (suc n) t i = ⊎-elim (λ k. let r = select-in n t k in (omega (arith, r .0), r .1)) (last (f n) refl) (in-append t (select f n) (cond (f n) (n ∷ []) []) i)
     where
+      -- so it is with what the last step adds: n where it passes the test, else nothing
       last : (b : Bool) → f n ≡ b → In t (cond b (n ∷ []) []) → (t < suc n) × (f t ≡ true)
       last true e (inl k) = (omega arith, rw k e)
       last true e (inr k) = absurd k
       last false e k = absurd k
 
+  -- what is below n and passes the test is one of them
   pub in-select : (n t : ℕ) → t < n → f t ≡ true → In t (select f n)
   unfolding select
   in-select zero t l e = absurd (omega arith)
@@ -127,6 +136,7 @@ module _ (f : ℕ → Bool) where
       by r (yes k) = in-second t (select f n) (cond (f n) (n ∷ []) []) (let g : f n ≡ true = rw (sym k) e in rw g (inl k))
       by r (no m) = in-first t (select f n) (cond (f n) (n ∷ []) []) (r (omega (arith, m)))
 
+  -- they ascend
   pub select-rising : (n : ℕ) → Rising (select f n)
   unfolding select
   select-rising zero = tt

@@ -81,6 +81,7 @@ rising-fewer (x ∷ xs) (y ∷ ys) p q f =
     let m : length xs ≤ length ys = rising-fewer xs ys (p .1) (q .1) (λ t i. in-tail y t ys (later t i) (f t (inr i))) in
     omega arith
   where
+    -- what stands after the first of the one is above the first of the other
     later : (t : ℕ) → In t xs → y < t
     later t i =
         let k = above-in x t xs (p .0) i in
@@ -96,9 +97,11 @@ rising-equal (x ∷ xs) (y ∷ ys) p q f e =
     ap₂ _∷_ same
     (rising-equal xs ys (p .1) (q .1) (λ t i. in-tail y t ys (let k = above-in x t xs (p .0) i in omega (arith, first)) (f t (inr i))) (omega arith))
   where
+    -- the first of the other is not above the first of the one
     first : y ≤ x
     first = first-le y x ys xs (q .0) (f x (inl refl))
 
+    -- if it were below, the one would be no longer than the other without its first
     fewer : y < x → length (x ∷ xs) ≤ length ys
     fewer l = rising-fewer (x ∷ xs) ys p (q .1) (λ t i. in-tail y t ys (let k = first-le x t xs ys (p .0) i in omega arith) (f t i))
 
@@ -106,6 +109,7 @@ rising-equal (x ∷ xs) (y ∷ ys) p q f e =
     by (yes g) = g
     by (no n) = let few = fewer (omega (arith, n, first)) in absurd (omega arith)
 
+    -- so both begin with the same number
     same : x ≡ y
     same = by (ℕ-discrete x y)
 
@@ -121,6 +125,7 @@ in-inserted t (x ∷ xs) = by (in-inserted t xs) (ltb t x) (eqb t x) refl
     by r false true e = inl (eqb-true t x e)
     by r false false e = inr r
 
+-- what stood in the list still stands in it with t put in
 pub still-in : (u t : ℕ) (xs : List ℕ) → In u xs → In u (insertion t xs)
 unfolding insertion
 still-in u t [] i = absurd i
@@ -132,6 +137,7 @@ still-in u t (x ∷ xs) i = by (λ k. still-in u t xs k) (ltb t x) (eqb t x) i
     by r false false (inl e) = inl e
     by r false false (inr i) = inr (r i)
 
+-- what stands in it with t put in is t, or stood there before
 pub was-in : (u t : ℕ) (xs : List ℕ) → In u (insertion t xs) → (u ≡ t) ⊎ In u xs
 unfolding insertion
 was-in u t [] (inl e) = inl e

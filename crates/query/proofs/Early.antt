@@ -28,6 +28,7 @@ module _ (w h : ℕ) (words : List ℕ) (p : Lists) where
   floor-numbered : Numbered (floorRows w h words)
   floor-numbered = (omega arith, (omega arith, (omega arith, tt)))
 
+  -- row 8 alone: the plan is not the floor's own
   eighth : List Refusal
   eighth = refuse 8 (¬ (Fits w h words p)) ∷ []
 
@@ -53,6 +54,7 @@ module _ (w h : ℕ) (words : List ℕ) (p : Lists) where
 
 -- ---- all of a query's rows
 module _ (a : Asked) where
+  -- the rows 9, 10 and 11
   abbrev ends : List Refusal
   ends = endRows (a .w) (a .h) (a .words) (a .sx) (a .sy) (a .gx) (a .gy) (length (a .plan .corners)) (length (a .work))
 
@@ -60,6 +62,7 @@ module _ (a : Asked) where
   plan-numbered : Numbered (planRows (a .w) (a .h) (a .words) (a .plan))
   plan-numbered = (omega arith, (omega arith, (omega arith, (omega arith, tt))))
 
+  -- and so are all the rows 1 to 11
   early-numbered : Numbered (earlyRows a)
   early-numbered = (omega arith, (omega arith, (omega arith, (omega arith, (omega arith, (omega arith, (omega arith, tt)))))))
 
@@ -85,6 +88,7 @@ module _ (a : Asked) where
     ⊎-elim (λ t. t) (λ f. absurd (n (inr (inr f)))) (true-or-false (board (a .w) (a .h) (a .words) (at x y .x) (at x y .y))),
   )
     where
+      -- a column or row that is not outside is inside
       inside : (i m : ℕ) → ¬ (m ≤ i) → i < m
       inside i m k = omega (arith, k)
 
@@ -92,6 +96,7 @@ module _ (a : Asked) where
   pub ready : Judged (a .w) (a .h) (a .words) (a .plan) 0 → FirstOf ends 0 → Unrefused a
   ready j f = by f
     where
+      -- where neither end is shut and there is room, none of the rows 1 to 11 applies
       make : ¬ (Shut (a .w) (a .h) (a .words) (a .sx) (a .sy)) → ¬ (Shut (a .w) (a .h) (a .words) (a .gx) (a .gy)) →
           ¬ (length (a .work) < 6 * (length (a .plan .corners) + 2)) → Unrefused a
       make s g r =

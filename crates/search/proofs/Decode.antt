@@ -64,6 +64,7 @@ module _ (C S E : List ℕ) {t : Trip} {W T : List ℕ} (few : t .k ≤ 2048) (r
   abbrev D : List ℕ
   D = columnOf (t .k + 2) W Label
 
+  -- the flags of settled places
   abbrev F : List ℕ
   F = columnOf (t .k + 2) W Settled
 
@@ -112,6 +113,7 @@ module _ (C S E : List ℕ) {t : Trip} {W T : List ℕ} (few : t .k ≤ 2048) (r
         });
   }
     where
+      -- It has a label, at which it waits.
       x : (0 < getD D p 0) × WaitingAt (labelsOf (t .k + 2) W) p (getD D p 0 - 1)
       x = entry-waiting D F p w
 

@@ -58,10 +58,12 @@ P6-east =
     clearance-more (board 5 3 hall) E (placeOf 5 1) refl 1 refl (clearance-one (board 5 3 hall) E (placeOf 5 2) refl refl refl)
 
 -- ---- P7: links, by the test of Definition 2
+-- cells 1 and 13 are not linked
 P7-not : ¬ (LinkedCells walkers 5 3 hall 1 13)
 unfolding board freeIn joined step corner nook
 P7-not l = true≢false (sym (joined-iff-direct (padded 5 3 hall) (placeOf 5 1) (placeOf 5 13) .1 (l .direct)) ∙ refl)
 
+-- cells 1 and 11 are linked
 P7-linked : LinkedCells walkers 5 3 hall 1 11
 unfolding board freeIn joined step corner nook
 P7-linked =
@@ -73,21 +75,26 @@ P7-linked =
     }
 
 -- ---- P9 and P10: the bent floor, whose cells claim their column and row in straight steps
+-- the claim: every cell is reached, in as many straight steps as its column and row make
 bent-claim : Claim
 bent-claim = record { reached = λ p. true; far = λ p. pair (pred (p .x) + pred (p .y)) 0 }
 
+-- the claim passes its check: no step leads to a cell that claims more than the step adds
 bent-certified : Certified walkers (board 2 2 bent) (placeOf 2 0) bent-claim
 unfolding bent-claim board freeIn certifies step shorter over
 bent-certified = certifies-certified walkers (within 2 2 bent) (placeOf 2 0) bent-claim refl
 
+-- cell 0 is the start, no step away
 bent-0 : Far 2 2 bent 0 0 (pair 0 0)
 unfolding bent-claim board freeIn step
 bent-0 = certified-shortest bent-certified (placeOf 2 0) [] (refl, refl) refl
 
+-- cell 2 is one straight step away
 bent-2 : Far 2 2 bent 0 2 (pair 1 0)
 unfolding bent-claim board freeIn step
 bent-2 = certified-shortest bent-certified (placeOf 2 2) (S ∷ []) ((refl, refl, refl), refl) refl
 
+-- cell 3 is two straight steps away
 bent-3 : Far 2 2 bent 0 3 (pair 2 0)
 unfolding bent-claim board freeIn step
 bent-3 = certified-shortest bent-certified (placeOf 2 3) (S ∷ E ∷ []) ((refl, refl, (refl, refl, refl)), refl) refl
@@ -113,6 +120,7 @@ unfolding board freeIn step
 P10-line l = true≢false (sym (l .1))
 
 -- ---- P11 and P12: only the first column is claimed, and nothing leads out of it
+-- the claim: just the first column is reached, at no length
 first-column : Claim
 first-column = record { reached = λ p. eqb (p .x) 1; far = λ p. pair 0 0 }
 
@@ -121,6 +129,7 @@ P11-none : NoWay 2 2 split 0 3
 unfolding first-column board freeIn certifies step shorter over
 P11-none = certified-none (certifies-certified walkers (within 2 2 split) (placeOf 2 0) first-column refl) (placeOf 2 3) refl
 
+-- on the barred floor no walk leads from cell 0 to cell 2
 P12-none : NoWay 3 1 barred 0 2
 unfolding first-column board freeIn certifies step shorter over
 P12-none = certified-none (certifies-certified walkers (within 3 1 barred) (placeOf 3 0) first-column refl) (placeOf 3 2) refl
@@ -133,6 +142,7 @@ stands-still w h words f = record { some = ([], (f, refl), refl); least = λ ds 
 unreached : (w h : ℕ) (words : List ℕ) (c : ℕ) → NoWay w h words 0 c → ¬ ((l : Len) × Far w h words 0 c l)
 unreached w h words c n f = n (f .1 .some .0) (f .1 .some .1)
 
+-- on the split floor the effort is 1: only the start is reached
 P11-effort : EffortLost 2 2 split 0 3 1
 unfolding board freeIn corner nook
 P11-effort =
@@ -145,6 +155,7 @@ P11-effort =
           (with {x = 0} (record { inside = omega arith; one-of = inr (inl refl) }, (pair 0 0, stands-still 2 2 split refl)) empty)));
     }
 
+-- on the barred floor it is 1 too
 P12-effort : EffortLost 3 1 barred 0 2 1
 unfolding board freeIn corner nook
 P12-effort =
