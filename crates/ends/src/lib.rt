@@ -6,6 +6,8 @@ ghost use Rattle.places.specs.Places.{Ascending};
 ghost use Rattle.ends.specs.Flags.{Flaggable};
 ghost use Rattle.ends.specs.Prepared.{Searchable, Empty, EndFlags, Prepared};
 ghost use Rattle.ends.specs.Trips.{TripOf};
+use places::BY_GOAL;
+use places::BY_START;
 use places::Trip;
 
 mod flags;
@@ -78,28 +80,8 @@ pub fn prepare(
     ensures { λ r. ⌜ Prepared w h (now (words .entry)) (record { clear = now (clear .entry); corners = now (corners .entry); starts = now (starts .entry); neighbours = now (neighbours .entry) }) start goal r (now (work .entry)) (now (work .exit)) ⌝ }
 {
     let t = trip_of(w, corners, start, goal);
-    let k = t.k;
-    flag_end(
-        words,
-        w,
-        h,
-        clear,
-        corners,
-        work,
-        k + 2,
-        places::BY_START,
-        start,
-    );
-    flag_end(
-        words,
-        w,
-        h,
-        clear,
-        corners,
-        work,
-        k + 2,
-        places::BY_GOAL,
-        goal,
-    );
+    let n = t.k + 2;
+    flag_end(words, w, h, clear, corners, work, n, BY_START, start);
+    flag_end(words, w, h, clear, corners, work, n, BY_GOAL, goal);
     t
 }

@@ -124,7 +124,7 @@ P10-line l = true≢false (sym (l .1))
 first-column : Claim
 first-column = record { reached = λ p. eqb (p .x) 1; far = λ p. pair 0 0 }
 
--- only the start is reached, of three cells or four of which it is the first
+-- on the split floor no walk leads from cell 0 to cell 3
 P11-none : NoWay 2 2 split 0 3
 unfolding first-column board freeIn certifies step shorter over
 P11-none = certified-none (certifies-certified walkers (within 2 2 split) (placeOf 2 0) first-column refl) (placeOf 2 3) refl

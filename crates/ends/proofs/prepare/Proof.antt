@@ -19,9 +19,9 @@ trip-of-requires c κs =
 
 flag-end-requires : tie.Need-flag-end-requires
 flag-end-requires c κs =
-    let s = c .before .before .before .before .before .before .before .before in
+    let s = c .before .before .before .before .before .before .before .before .before in
     let p = s .pre .0 in
-    let e = c .before .trip-of .ensures .count in (
+    let e = c .before .before .trip-of .ensures .count in (
       flaggable _ _ _ _ _ _ _ p _ _ ByStart _ (p .start-inside) (p .start-free) (omega arith) (omega arith) refl,
       subst (λ (k : ℕ). Empty (k + 2) ByStart (s .args .work .now)) (sym e) (s .pre .1 ByStart (omega arith)),
     )
@@ -29,9 +29,9 @@ flag-end-requires c κs =
 flag-end-requires-2 : tie.Need-flag-end-requires-2
 flag-end-requires-2 c κs =
     let f = c .before .before .before in
-    let s = f .before .before .before .before .before .before .before .before .before in
+    let s = c .before .before .before .before .before .before .before .before .before .before .before .before .before in
     let p = s .pre .0 in
-    let e = f .before .before .trip-of .ensures .count in
+    let e = c .before .before .before .before .before .before .trip-of .ensures .count in
     let o = f .flag-end .ensures .only in (
       flaggable _ _ _ _ _ _ _ p _ _ ByGoal _ (p .goal-inside) (p .goal-free) (omega arith) (omega arith) (o .sized),
       λ i. ap (λ (L : List ℕ). getD L i 0) (o .others ByGoal (λ z. omega arith)) ∙ subst (λ (k : ℕ). Empty (k + 2) ByGoal (s .args .work .now)) (sym e) (s .pre .1 ByGoal (omega arith)) i,
@@ -39,11 +39,9 @@ flag-end-requires-2 c κs =
 
 returns : tie.Need-returns
 returns c =
-    let g = c .before .before in
-    let f = g .before .before .before .before in
-    let s = f .before .before .before .before .before .before .before .before .before in
-    let t = f .before .before .trip-of in
-    prepared _ _ _ _ _ _ _ (s .pre .0) (t .result) (t .ensures) _ _ (f .flag-end .ensures) (g .flag-end2 .ensures)
+    let s = c .before .before .before .before .before .before .before .before .before .before .before .before .before .before .before .before in
+    let t = c .before .before .before .before .before .before .before .before .before .trip-of in
+    prepared _ _ _ _ _ _ _ (s .pre .0) (t .result) (t .ensures) _ _ (c .before .before .before .before .before .before .flag-end .ensures) (c .before .before .flag-end2 .ensures)
     (λ k l. subst (λ (m : ℕ). Empty (m + 2) k (s .args .work .now)) (sym (t .ensures .count)) (s .pre .1 k l))
 
 pub prepare-spec : {M : Type 1} → statement M
@@ -53,7 +51,6 @@ prepare-spec =
     trip-of-requires
     (search needs)
     flag-end-requires
-    (search needs)
     flag-end-requires-2
     (search needs)
     returns)
