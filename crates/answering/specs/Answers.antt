@@ -29,6 +29,14 @@ pub record Told (l : Len) (effort room : ℕ) (r : Answer) : Type 0 where
   pub fits : cellsOf l ≤ room → r .code ≡ 0
   pub full : room < cellsOf l → r .code ≡ 13
 
+-- r tells that no walk leads to the goal, and the effort
+pub record ToldNone (effort : ℕ) (r : Answer) : Type 0 where
+  pub code : r .code ≡ 12
+  pub straight : r .straight ≡ 0
+  pub diagonal : r .diagonal ≡ 0
+  pub cells : r .cells ≡ 0
+  pub billed : r .effort ≡ effort
+
 -- a route was written where it has room, and else the list is as it was
 pub record RouteLeft (r : Answer) (cells route₀ route₁ : List ℕ) (l : Len) : Type 0 where
   pub fits : cellsOf l ≤ length route₀ → (r .code ≡ 0) × (route₁ ≡ written cells route₀)

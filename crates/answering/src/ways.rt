@@ -12,7 +12,7 @@ ghost use Rattle.line.specs.Cells.{Cell};
 ghost use Rattle.chain.specs.Chain.{Journey, Walked};
 ghost use Rattle.ends.specs.Prepared.{Searchable};
 ghost use Rattle.answering.specs.Steps.{Unrefused, LateOutcome};
-ghost use Rattle.answering.specs.Answers.{Told, LineAnswer, Retraced, SearchAnswer, Beyond};
+ghost use Rattle.answering.specs.Answers.{Told, ToldNone, LineAnswer, Retraced, SearchAnswer, Beyond};
 use super::Answer;
 use lengths::Length;
 use places::Trip;
@@ -84,6 +84,20 @@ fn retrace(
     told
 }
 
+// What is told where no walk leads to the goal.
+fn tell_none(effort: usize) -> Answer
+    requires { ⌜ effort < 65536 ⌝ }
+    ensures { λ r. ⌜ ToldNone effort r ⌝ }
+{
+    Answer {
+        code: 12,
+        straight: 0,
+        diagonal: 0,
+        cells: 0,
+        effort: effort as u32,
+    }
+}
+
 // The answer where the direct line is barred.
 fn search_answer(
     words: &[u64],
@@ -117,19 +131,12 @@ fn search_answer(
     );
     let mut table = [0u16; 16384];
     places::index_corners(corners, &mut table);
-    let places = t.k + 2;
-    let effort = search::run(corners, starts, neighbours, t, &table, work, places);
-    if places::get(work, places, places::SETTLED, t.to) > 0 {
-        retrace(corners, starts, neighbours, t, &table, effort, route, work)
-    } else {
-        Answer {
-            code: 12,
-            straight: 0,
-            diagonal: 0,
-            cells: 0,
-            effort: effort as u32,
-        }
+    let n = t.k + 2;
+    let effort = search::run(corners, starts, neighbours, t, &table, work, n);
+    if places::get(work, n, places::SETTLED, t.to) > 0 {
+        return retrace(corners, starts, neighbours, t, &table, effort, route, work);
     }
+    tell_none(effort)
 }
 
 // The answer to a question that none of the refusals 1 to 11 stops.

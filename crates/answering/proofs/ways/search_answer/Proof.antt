@@ -39,8 +39,8 @@ index-corners-requires c κs =
     let ready = search-ready (s .pre) long p in
     (ready .fair .ascending, (omega (arith, ready .fair .corners, ready .fair .few), (corner-small ready, omega arith)))
 
-add-places : tie.Need-add-places
-add-places c = search needs
+add-n : tie.Need-add-n
+add-n c = search needs
 
 slice-aggregate-run : tie.Need-slice-aggregate-run
 slice-aggregate-run c = search needs
@@ -73,9 +73,6 @@ retrace-requires c κs =
     let g = subst (λ (x : ℕ). 0 < x) (c .before .before .before .before .get .ensures) (c .before .before .before .if1 .taken) in
     ((_, goal-walked (s .pre) long p r g), (few-settled (s .pre) long p r, c .before .before .before .before .before .before .before .before .before .before .before .before .before .index-corners .ensures .0))
 
-cast-t41 : tie.Need-cast-t41
-cast-t41 c = search needs
-
 same-length : tie.Need-same-length
 same-length c = search needs
 
@@ -100,18 +97,31 @@ returns c =
     let e = c .before .before .before .before .retrace .ensures in
     (answer-found (s .pre) long p r g (e .0 _ (goal-walked (s .pre) long p r g)), found-beyond (s .pre) long p r z (e .1))
 
+tell-none-requires : tie.Need-tell-none-requires
+tell-none-requires c κs = search needs
+
 same-length-3 : tie.Need-same-length-3
 same-length-3 c = search needs
 
 returns-2 : tie.Need-returns-2
 returns-2 c =
-    let s = c .before .before .before .before .before .before .before .before .before .before .before .before .before .before .before .before .before .before .before .before .before .before .before .before .before .before .before in
-    let z = c .before .before .before .before .before .before .before .before .before .before .before .before .before .before .before .before .before .before .zero-first .ensures in
+    let s = c .before .before .before .before .before .before .before .before .before .before .before .before .before .before .before .before .before .before .before .before .before .before .before .before .before .before .before .before in
+    let z = c .before .before .before .before .before .before .before .before .before .before .before .before .before .before .before .before .before .before .before .zero-first .ensures in
     let long = ap length z ∙ zeroed-length (s .args .work .now) _ (s .pre .room) in
-    let p = c .before .before .before .before .before .before .before .before .before .before .before .before .before .before .prepare .ensures in
-    let r = c .before .before .before .before .before .run .ensures in
-    let l = subst (λ (x : ℕ). x ≤ 0) (c .before .get .ensures) (omega (arith, c .if1 .left)) in
-    (inr (record { code = refl; straight = refl; diagonal = refl; cells = refl; billed = lost-effort (s .pre) long p r l; kept = refl }), lost-beyond (s .pre) long p r z)
+    let p = c .before .before .before .before .before .before .before .before .before .before .before .before .before .before .before .prepare .ensures in
+    let r = c .before .before .before .before .before .before .run .ensures in
+    let l = subst (λ (x : ℕ). x ≤ 0) (c .before .before .get .ensures) (omega (arith, c .before .if1 .left)) in
+    let n = c .tell-none .ensures in (
+      inr (record {
+        code = n .code;
+        straight = n .straight;
+        diagonal = n .diagonal;
+        cells = n .cells;
+        billed = rw (n .billed) (lost-effort (s .pre) long p r l);
+        kept = refl;
+      }),
+      lost-beyond (s .pre) long p r z,
+    )
 
 pub search-answer-spec : {M : Type 1} → statement M
 search-answer-spec =
@@ -123,15 +133,15 @@ search-answer-spec =
     prepare-requires
     slice-aggregate-index-corners
     index-corners-requires
-    add-places
+    add-n
     slice-aggregate-run
     run-requires
     get-requires
     slice-aggregate-retrace
     retrace-requires
-    cast-t41
     same-length
     same-length-2
     returns
+    tell-none-requires
     same-length-3
     returns-2)
