@@ -16,7 +16,7 @@ use Rattle.marks.specs.Marks.{cornerCell}
 use Rattle.fields.specs.Fields.{Seen}
 use Rattle.plan.specs.Plan.{Lists, PlanOf}
 use Rattle.plan.proofs.Linked.{shown-direct, direct-shown}
-use Rattle.places.specs.Columns.{columnOf, ByStart, ByGoal, Label, Tree, Settled}
+use Rattle.places.specs.Columns.{columnOf, ByStart, ByGoal, Label, Settled}
 use Rattle.places.specs.Places.{indexOf, Ascending}
 use Rattle.places.specs.Chart.{chart}
 use Rattle.places.specs.declared.Trip.{Trip}
@@ -182,7 +182,6 @@ module _ (w h : ℕ) (words : List ℕ) (p : Lists) (start goal : ℕ) (W : List
           charted = charted;
           blank = record {
             label = λ v. ap (λ (L : List ℕ). getD L v 0) (untouched Label (λ e. omega arith) (λ e. omega arith)) ∙ empty Label (omega arith) v;
-            tree = λ v. ap (λ (L : List ℕ). getD L v 0) (untouched Tree (λ e. omega arith) (λ e. omega arith)) ∙ empty Tree (omega arith) v;
             settled = λ v. ap (λ (L : List ℕ). getD L v 0) (untouched Settled (λ e. omega arith) (λ e. omega arith)) ∙ empty Settled (omega arith) v;
           };
           count = trip .count;

@@ -60,7 +60,7 @@ pub left-same : (n : ℕ) (W : List ℕ) → Left n W W
 left-same n W = record { by-start = refl; by-goal = refl; next = refl; rest = refl; sized = refl }
 
 module _ {n : ℕ} {W W′ : List ℕ} where
-  -- A change of labels, tree or settled places leaves the rest.
+  -- A change of labels or settled places leaves the rest.
   pub only-left : {c : ℕ} → c < 3 → Only n W c W′ → Left n W W′
   only-left h o = record {
     by-start = o .others 3 (λ q. omega arith);

@@ -14,9 +14,6 @@ columnOf n W c = take n (drop (c * n) W)
 abbrev pub Label : ℕ
 Label = 0
 
-abbrev pub Tree : ℕ
-Tree = 1
-
 abbrev pub Settled : ℕ
 Settled = 2
 

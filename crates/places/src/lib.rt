@@ -14,9 +14,7 @@ ghost use Rattle.places.specs.Chart.{chart, flagged as flaggedOf, Rows, 
 
 // The least length known of a place, plus one; 0 for none.
 pub const LABEL: usize = 0;
-// Spare: the search leaves it alone.
-pub const TREE: usize = 1;
-// 1 for a settled place, else 0.
+// 1 for a settled place, else 0. The column before it is spare.
 pub const SETTLED: usize = 2;
 // 1 for a corner that is linked to the start, which is no corner; else 0. The same for the goal.
 pub const BY_START: usize = 3;

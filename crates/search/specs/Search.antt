@@ -14,7 +14,7 @@ use Rattle.settling.specs.Labels.{Labels, SettledAt, WaitingAt, Step, Sound}
 use Rattle.settling.specs.Counts.{Counts, below}
 use Rattle.settling.specs.Effort.{InReach}
 use Rattle.places.specs.declared.Trip.{Trip}
-use Rattle.places.specs.Columns.{columnOf, Label, Tree, Settled, Left}
+use Rattle.places.specs.Columns.{columnOf, Label, Settled, Left}
 use Rattle.places.specs.Chart.{Chart, chart, net, order}
 use Rattle.search.specs.Tree.{Right}
 
@@ -53,10 +53,9 @@ pub record Settling (C S E : List ℕ) (t : Trip) (W T : List ℕ) (r : ℕ) (W�
   pub right : Right C t W′ T′
   pub tree : length T′ ≡ length T
 
--- Nothing is labelled, nothing is settled, and the spare column is empty.
+-- Nothing is labelled and nothing is settled.
 pub record Blank (n : ℕ) (W : List ℕ) : Type 0 where
   pub label : (v : ℕ) → getD (columnOf n W Label) v 0 ≡ 0
-  pub tree : (v : ℕ) → getD (columnOf n W Tree) v 0 ≡ 0
   pub settled : (v : ℕ) → getD (columnOf n W Settled) v 0 ≡ 0
 
 -- No shortest chain is so long that a label would not fit.
