@@ -17,9 +17,9 @@ use Rattle.plan.proofs.Risings.{at-in}
 use Rattle.effort.specs.Net.{Joined}
 use Rattle.ground.proofs.Numbers.{same-cell, within}
 use Rattle.places.specs.Places.{indexOf}
-use Rattle.places.specs.Chart.{Chart, flagged, arcsOf, arcs, cornerLink, countOf, linkCount, cell, net}
+use Rattle.places.specs.Chart.{Chart, flagged, arcsOf, arcs, cornerLink, cell, net}
 use Rattle.places.proofs.Cells.{index-at, index-of-entry}
-use Rattle.places.proofs.Links.{flag-some, corner-arc, corner-start, corner-goal, link-corner, link-start, link-goal, count-end}
+use Rattle.places.proofs.Links.{flag-some, corner-arc, corner-start, corner-goal, link-corner, link-start, link-goal, count-end, count-corner}
 use Rattle.chain.specs.Charted.{DirectCells, Charted, Used}
 use Rattle.chain.proofs.Entries.{in-index}
 use Rattle.chain.proofs.Corners.{corners-ascend, neighbour-linked, linked-neighbour}
@@ -41,11 +41,6 @@ joined-turned {w} {h} {words} {a = a} {b = b} j =
 
 -- what a chart links
 module _ (𝓒 : Chart) where
-  -- a corner has two more than its neighbours to look at
-  count-corner : (u : ℕ) → u < 𝓒 .trip .k → linkCount 𝓒 u ≡ arcs 𝓒 u + 2
-  unfolding countOf
-  count-corner u l = rw (lt-ltb u (𝓒 .trip .k) l)
-
   -- what a corner u is linked to: its neighbours, and by a flag start and goal
   abbrev CornerLinks : ℕ → ℕ → Type 0
   CornerLinks u v =
@@ -67,10 +62,10 @@ module _ (𝓒 : Chart) where
   -- and each of these is a link
   links-corner : (u v : ℕ) → u < 𝓒 .trip .k → CornerLinks u v → net 𝓒 .Link u v
   links-corner u v l (inl (j, a, e)) =
-      (j, (let c = count-corner u l in omega arith), link-corner 𝓒 u j l ∙ corner-arc 𝓒 u j a ∙ ap (λ (x : ℕ). x + 1) e)
+      (j, (let c = count-corner 𝓒 u l in omega arith), link-corner 𝓒 u j l ∙ corner-arc 𝓒 u j a ∙ ap (λ (x : ℕ). x + 1) e)
   links-corner u v l (inr (inl (e, f))) = (
     arcs 𝓒 u,
-    (let c = count-corner u l in omega arith),
+    (let c = count-corner 𝓒 u l in omega arith),
     link-corner 𝓒 u (arcs 𝓒 u) l
         ∙ corner-start 𝓒 u (arcs 𝓒 u) refl
         ∙ set-flagged (𝓒 .by-start) u (𝓒 .trip .k) f
@@ -78,7 +73,7 @@ module _ (𝓒 : Chart) where
   )
   links-corner u v l (inr (inr (e, f))) = (
     arcs 𝓒 u + 1,
-    (let c = count-corner u l in omega arith),
+    (let c = count-corner 𝓒 u l in omega arith),
     link-corner 𝓒 u (arcs 𝓒 u + 1) l
         ∙ corner-goal 𝓒 u (arcs 𝓒 u + 1) (omega arith)
         ∙ set-flagged (𝓒 .by-goal) u (𝓒 .trip .k + 1) f
