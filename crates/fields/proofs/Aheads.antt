@@ -7,7 +7,7 @@ use mathlib.Core.Path.{_≡_, refl, _∙_}
 use native.Mathlib.Omega.{arith}
 use lib.ListN.{getD, replicate}
 use Rattle.floor.specs.Board.{Place, at, Free, Dir, Offset, less, same, more, dx, dy, shift, moving}
-use Rattle.floor.specs.Window.{InWindow}
+use Rattle.windows.specs.Window.{InWindow}
 use Rattle.floor.specs.Words.{board, Sized}
 use Rattle.floor.proofs.Places.{padded}
 use Rattle.ground.specs.Kind.{walkers}

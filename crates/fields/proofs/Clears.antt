@@ -13,7 +13,7 @@ use Rattle.floor.specs.Board.{Board, Place, at, Free, Dir, dirAt, Offset, less,
 use Rattle.floor.specs.Words.{board, numberOf}
 use Rattle.floor.proofs.Below.{below}
 use Rattle.floor.proofs.Places.{padded}
-use Rattle.floor.proofs.Windows.{shift-offset}
+use Rattle.windows.proofs.Windows.{shift-offset}
 use Rattle.ground.specs.Clearance.{ahead, Clearance}
 use Rattle.ground.proofs.Logic.{not-both, and-left, and-right, and-false}
 use Rattle.ground.proofs.Cells.{column-inside, row-inside}

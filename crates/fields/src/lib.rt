@@ -50,7 +50,7 @@ fn ahead_of(x: usize, y: usize, dir: usize, k: usize) -> Spot
     requires { ⌜ (x < 255) × (y < 255) × (k < 255) × (dir < 8) × (0 < ahead (dirAt dir) k (at x y) .x) × (0 < ahead (dirAt dir) k (at x y) .y) ⌝ }
     ensures { λ r. ⌜ at (r .x) (r .y) ≡ ahead (dirAt dir) k (at x y) ⌝ }
 {
-    let o = floor::in_window(dir);
+    let o = windows::in_window(dir);
     let dx = o[0];
     let dy = o[1];
     Spot {

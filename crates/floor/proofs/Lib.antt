@@ -7,4 +7,3 @@ pub mod Places
 pub mod Sums
 pub mod Ones
 pub mod FreeCells
-pub mod Windows

@@ -1,5 +1,4 @@
 -- The definitions that the contracts cite.
 pub mod Board
-pub mod Window
 pub mod Refusals
 pub mod Words

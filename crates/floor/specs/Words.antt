@@ -77,11 +77,6 @@ floorRows w h words =
     ∷ []
 
 -- ---- what is read of a floor
--- the cells a, a + 1 and a + 2 of a row of w cells are bits of one word
-pub record OneWord (w a : ℕ) : Type 0 where
-  pub inside : a + 2 < w
-  pub together : a % 64 < 62
-
 -- what reading a floor takes: sides of at most 255, and exactly the words that the rows need
 pub record Sized (w h : ℕ) (words : List ℕ) : Type 0 where
   pub wide : w ≤ 255

@@ -67,7 +67,7 @@ pub fn line_legal(words: &[u64], w: usize, h: usize, x: usize, y: usize, u: usiz
     let mut b = y;
     let mut i = 0;
     while i < n {
-        if floor::step_at(words, w, h, a, b, heading(a, b, u, v)) {
+        if windows::step_at(words, w, h, a, b, heading(a, b, u, v)) {
             a = nearer(a, u);
             b = nearer(b, v);
             i += 1;

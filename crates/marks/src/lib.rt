@@ -18,7 +18,7 @@ pub fn corner_cell(words: &[u64], w: usize, h: usize, cell: usize) -> bool
     requires { ⌜ Floor w h (now words) × (cell < w * h) ⌝ }
     ensures { λ r. ⌜ r ≡ cornerCell w h (now (words .entry)) cell ⌝ }
 {
-    floor::corner_at(words, w, h, cell % w, cell / w)
+    windows::corner_at(words, w, h, cell % w, cell / w)
 }
 
 // Bit i of a mask.

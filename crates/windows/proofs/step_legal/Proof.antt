@@ -1,9 +1,9 @@
--- `floor::step_legal` meets its contract: what it tests is the step rule, by what `in_window` and `cell` ensure. Assumes nothing.
+-- `windows::step_legal` meets its contract: what it tests is the step rule, by what `in_window` and `cell` ensure. Assumes nothing.
 use borrow.Author.Needs.{needs}
 use Rattle.floor.specs.Board.{dirAt, step}
-use Rattle.floor.proofs.Windows.{beside-middle}
-use Rattle.floor.proofs.step_legal.Statement.{statement}
-use Rattle.floor.proofs.step_legal.Tie as tie
+use Rattle.windows.proofs.Windows.{beside-middle}
+use Rattle.windows.proofs.step_legal.Statement.{statement}
+use Rattle.windows.proofs.step_legal.Tie as tie
 
 returns : tie.Need-returns
 unfolding step

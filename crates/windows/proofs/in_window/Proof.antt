@@ -1,4 +1,4 @@
--- `floor::in_window` meets its contract: each of the table's eight entries, which antt computes. Assumes nothing.
+-- `windows::in_window` meets its contract: each of the table's eight entries, which antt computes. Assumes nothing.
 use Prim.Native.Nat.{ℕ}
 use mathlib.Core.List.{List, [], _∷_}
 use lib.Dec.{T}
@@ -8,11 +8,11 @@ use lib.Signed.{nonNeg}
 use mir.Syntax.{w32, w64}
 use mir.Val.{toZ, ofZ, Fits, SFits}
 use borrow.Author.Needs.{needs}
 use Rattle.floor.specs.Board.{dirAt}
-use Rattle.floor.specs.Window.{InWindow}
+use Rattle.windows.specs.Window.{InWindow}
 use Rattle.floor.proofs.Below.{below}
-use Rattle.floor.proofs.in_window.Statement.{statement}
-use Rattle.floor.proofs.in_window.Tie as tie
+use Rattle.windows.proofs.in_window.Statement.{statement}
+use Rattle.windows.proofs.in_window.Tie as tie
 
 abbrev table : List (List ℤ)
 table =

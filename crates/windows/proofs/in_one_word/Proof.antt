@@ -1,11 +1,11 @@
--- `floor::in_one_word` meets its contract: both parts are tested. Assumes nothing.
+-- `windows::in_one_word` meets its contract: both parts are tested. Assumes nothing.
 use Prim.Native.Nat.{_%_}
 use native.Mathlib.Omega.{arith}
 use borrow.Author.Needs.{needs}
 use borrow.Author.Tests.{ltb-true, ltb-false}
 use Rattle.floor.proofs.Tables.{missing}
-use Rattle.floor.proofs.in_one_word.Statement.{statement}
-use Rattle.floor.proofs.in_one_word.Tie as tie
+use Rattle.windows.proofs.in_one_word.Statement.{statement}
+use Rattle.windows.proofs.in_one_word.Tie as tie
 
 returns : tie.Need-returns
 returns c =

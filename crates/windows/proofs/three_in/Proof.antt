@@ -1,15 +1,14 @@
--- `floor::three_in` meets its contract: by one word's bits, or by what `free_in` ensures of each place. Assumes nothing.
+-- `windows::three_in` meets its contract: by one word's bits, or by what `free_in` ensures of each place. Assumes nothing.
 use Prim.Native.Nat.{_-_}
 use mathlib.Core.Path.{_∙_}
 use native.Mathlib.Omega.{arith}
 use denote.Ref.{now}
 use borrow.Author.Needs.{needs}
 use native.Mathlib.Numerals.{add-one, add-two}
-use Rattle.floor.specs.Window.{triple}
-use Rattle.floor.specs.Words.{OneWord}
-use Rattle.floor.proofs.Places.{triple-in-word}
-use Rattle.floor.proofs.three_in.Statement.{statement}
-use Rattle.floor.proofs.three_in.Tie as tie
+use Rattle.windows.specs.Window.{triple, OneWord}
+use Rattle.windows.proofs.Triples.{triple-in-word}
+use Rattle.windows.proofs.three_in.Statement.{statement}
+use Rattle.windows.proofs.three_in.Tie as tie
 
 -- the three cells are bits of one word
 together : (c : tie.Then2) → let a = c .before .before .before .before .args in OneWord (a .w) (a .x - 1)

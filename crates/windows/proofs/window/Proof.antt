@@ -1,9 +1,9 @@
--- `floor::window` meets its contract: by what `three_at` ensures of each row. Assumes nothing.
+-- `windows::window` meets its contract: by what `three_at` ensures of each row. Assumes nothing.
 use borrow.Author.Needs.{needs}
 use native.Mathlib.Numerals.{add-one, add-two}
-use Rattle.floor.specs.Window.{windowOf, triple}
-use Rattle.floor.proofs.window.Statement.{statement}
-use Rattle.floor.proofs.window.Tie as tie
+use Rattle.windows.specs.Window.{windowOf, triple}
+use Rattle.windows.proofs.window.Statement.{statement}
+use Rattle.windows.proofs.window.Tie as tie
 
 returns : tie.Need-returns
 unfolding windowOf triple

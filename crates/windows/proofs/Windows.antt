@@ -5,8 +5,8 @@ use mathlib.Core.List.{List}
 use mathlib.Core.Path.{_≡_, refl}
 use native.Mathlib.Omega.{arith}
 use lib.Dec.{eqb}
 use Rattle.floor.specs.Board.{Board, at, Dir, N, E, S, W, NE, SE, SW, NW, Offset, less, same, more, dx, dy, shift, slanted, step, nook, corner}
-use Rattle.floor.specs.Window.{cells, triple, windowOf}
+use Rattle.windows.specs.Window.{cells, triple, windowOf}
 
 -- the neighbour's place from its place in a window: what code adds to an unpadded column or row
 pub shift-offset : (o : Offset) (x : ℕ) → shift o (suc x) ≡ x + shift o 1

@@ -1,9 +1,9 @@
--- `floor::three_bits` meets its contract: each is read by its own shift. Assumes nothing.
+-- `windows::three_bits` meets its contract: each is read by its own shift. Assumes nothing.
 use borrow.Author.Needs.{needs}
 use native.Mathlib.Numerals.{add-one, add-two}
-use Rattle.floor.specs.Window.{triple}
-use Rattle.floor.proofs.three_bits.Statement.{statement}
-use Rattle.floor.proofs.three_bits.Tie as tie
+use Rattle.windows.specs.Window.{triple}
+use Rattle.windows.proofs.three_bits.Statement.{statement}
+use Rattle.windows.proofs.three_bits.Tie as tie
 
 returns : tie.Need-returns
 unfolding triple

@@ -1,8 +1,8 @@
--- `floor::in_nook` meets its contract: what it tests are the three places of `nook`, by what `in_window` and `cell` ensure. Assumes nothing.
+-- `windows::in_nook` meets its contract: what it tests are the three places of `nook`, by what `in_window` and `cell` ensure. Assumes nothing.
 use borrow.Author.Needs.{needs}
 use Rattle.floor.specs.Board.{nook}
-use Rattle.floor.proofs.in_nook.Statement.{statement}
-use Rattle.floor.proofs.in_nook.Tie as tie
+use Rattle.windows.proofs.in_nook.Statement.{statement}
+use Rattle.windows.proofs.in_nook.Tie as tie
 
 returns : tie.Need-returns
 unfolding nook
