@@ -2,12 +2,12 @@
 ghost use mathlib.Core.Path.{_≡_};
 ghost use Rattle.lengths.specs.Lengths.{compareOf, pair};
 ghost use Rattle.floor.specs.Refusals.{Tells};
-ghost use Rattle.plan.specs.Survey.{lists, SurveyOutcome};
+ghost use Rattle.survey.specs.Survey.{lists, SurveyOutcome};
 ghost use Rattle.query.specs.Query.{QueryOutcome};
 ghost use Rattle.azebimoru.specs.Matches.{OwnPlan};
 use answering::Answer;
 use lengths::Length;
-use plan::Surveyed;
+use survey::Surveyed;
 
 // -1, 0 or 1, as the length of a straight and b diagonal steps is less than that of c and d, the same or more.
 #[no_mangle]
@@ -39,7 +39,7 @@ pub extern "C" fn azebimoru_survey(
 ) -> Surveyed
     ensures { λ r. ⌜ SurveyOutcome w h (now (words .entry)) (lists (now (clearances .entry)) (now (corners .entry)) (now (starts .entry)) (now (neighbours .entry))) r (lists (now (clearances .exit)) (now (corners .exit)) (now (starts .exit)) (now (neighbours .exit))) ⌝ }
 {
-    plan::survey(words, w, h, clearances, corners, starts, neighbours)
+    survey::survey(words, w, h, clearances, corners, starts, neighbours)
 }
 
 // Whether the four lists are exactly the plan of this floor, which is accepted, and the plan is within its limits.

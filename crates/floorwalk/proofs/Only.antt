@@ -19,9 +19,10 @@ use Rattle.ground.specs.Kind.{walkers}
 use Rattle.ground.specs.Walk.{NoWalk}
 use Rattle.marks.specs.Marks.{cornerCells}
 use Rattle.plan.specs.Plan.{Links, Lists, PlanOf, Fits}
-use Rattle.plan.specs.Survey.{Arcs, lentRows, lastRow, earlyRows, surveyRows, TooMany}
-use Rattle.plan.proofs.Surveys.{one-links}
-use Rattle.plan.proofs.SurveyOnly.{one-plan}
+use Rattle.plan.specs.Arcs.{Arcs, TooMany}
+use Rattle.survey.specs.Survey.{lentRows, lastRow, earlyRows, surveyRows}
+use Rattle.survey.proofs.Surveys.{one-links}
+use Rattle.survey.proofs.SurveyOnly.{one-plan}
 use Rattle.chain.specs.Route.{cellsOf, RouteOf}
 use Rattle.chain.proofs.Legal.{route-cells}
 use Rattle.chain.proofs.Single.{route-unique}

@@ -5,7 +5,7 @@ ghost use mathlib.Core.Bool.{false};
 ghost use mathlib.Core.Path.{_≡_};
 ghost use Prim.Native.Nat.{_+_, _<_, _≤_};
 ghost use lib.ListN.{length};
-ghost use Rattle.plan.specs.Survey.{lists};
+ghost use Rattle.survey.specs.Survey.{lists};
 ghost use Rattle.opening.specs.Grounds.{ground, Walkable};
 ghost use Rattle.replying.specs.Replies.{Begins, spotOf};
 ghost use Rattle.opening.specs.Openings.{Kept};

@@ -11,8 +11,8 @@ use Rattle.floor.specs.Words.{rowWords, freeCells, floorRows, Floor}
 use Rattle.floor.proofs.Accepted.{accepted}
 use Rattle.marks.specs.Lists.{written}
 use Rattle.plan.specs.Plan.{Lists, PlanOf}
-use Rattle.plan.specs.Survey.{lentRows, lastRow, Done, SurveyOutcome}
-use Rattle.plan.specs.declared.Surveyed.{Surveyed}
+use Rattle.survey.specs.Survey.{lentRows, lastRow, Done, SurveyOutcome}
+use Rattle.survey.specs.declared.Surveyed.{Surveyed}
 use Rattle.writing.specs.Answers.{Put, floorLine, surveyRefused, inputRefused}
 use Rattle.writing.proofs.Puts.{digits-64, floor-length, survey-length, input-length}
 use Rattle.opening.specs.Openings.{MapAt, Largest, bad-floor, cutPlan, SiteOpen, OpenedTo, FloorPut, FloorOpened}

@@ -3,7 +3,7 @@ use Prim.Native.Nat.{ℕ}
 use mathlib.Core.List.{List}
 use Rattle.floor.specs.Words.{Floor}
 use Rattle.plan.specs.Plan.{Lists, Fits}
-use Rattle.plan.specs.Survey.{lists}
+use Rattle.survey.specs.Survey.{lists}
 
 -- a surveyed floor
 pub record Ground : Type 0 where

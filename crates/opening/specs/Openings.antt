@@ -5,8 +5,8 @@ use mathlib.Core.Path.{_≡_}
 use lib.ListN.{length, getD, take}
 use Rattle.floor.specs.Words.{rowWords, freeCells, SizeRefused, Floor}
 use Rattle.plan.specs.Plan.{Lists, PlanOf}
-use Rattle.plan.specs.Survey.{lists, SurveyOutcome}
-use Rattle.plan.specs.declared.Surveyed.{Surveyed}
+use Rattle.survey.specs.Survey.{lists, SurveyOutcome}
+use Rattle.survey.specs.declared.Surveyed.{Surveyed}
 use Rattle.reading.specs.Lines.{At, TwoLine}
 use Rattle.reading.specs.Maps.{RowAt, rowPlace, Filled}
 use Rattle.writing.specs.Answers.{Put, floorLine, surveyRefused, inputRefused}

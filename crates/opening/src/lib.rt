@@ -1,5 +1,5 @@
 // What stands before the trips in the text that floorwalk takes: the sizes, the map and its survey.
-ghost use Rattle.plan.specs.Survey.{lists};
+ghost use Rattle.survey.specs.Survey.{lists};
 ghost use Rattle.opening.specs.Openings.{SizesAt, Lent, Surveyable, FloorOpened, OpenedTo};
 use reading::Rows;
 use reading::Two;
@@ -35,7 +35,7 @@ fn survey_floor(
     requires { ⌜ Surveyable w h (now words) (lists (now clear) (now corners) (now starts) (now arcs)) (now out) ⌝ }
     ensures { λ r. ⌜ FloorOpened w h next (now (words .entry)) (lists (now (clear .entry)) (now (corners .entry)) (now (starts .entry)) (now (arcs .entry))) (lists (now (clear .exit)) (now (corners .exit)) (now (starts .exit)) (now (arcs .exit))) (now (out .entry)) (now (out .exit)) r ⌝ }
 {
-    let s = plan::survey(words, w, h, clear, corners, starts, arcs);
+    let s = survey::survey(words, w, h, clear, corners, starts, arcs);
     if s.code != 0 {
         return Opened::Refused(writing::put_survey_refused(out, s.code as u64));
     }

@@ -11,6 +11,3 @@ pub mod Sweeping
 pub mod Fielding
 pub mod Seens
 pub mod Linkings
-pub mod Wipings
-pub mod Surveys
-pub mod SurveyOnly

@@ -12,7 +12,7 @@ use Rattle.ground.specs.Kind.{walkers}
 use Rattle.marks.specs.Lists.{part, written}
 use Rattle.marks.specs.Marks.{cornerCell, cornerCells}
 use Rattle.plan.specs.Rising.{In}
-use Rattle.plan.specs.Survey.{Arcs}
+use Rattle.plan.specs.Arcs.{Arcs}
 use Rattle.plan.specs.Linking.{Grown, OneLinked, AllLinked}
 use Rattle.plan.specs.declared.Filled.the-variants.{To, NoRoom}
 use Rattle.plan.proofs.Insertions.{part-length, spliced-self}

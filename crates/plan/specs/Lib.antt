@@ -1,6 +1,6 @@
 -- The definitions that the contracts cite.
 pub mod Plan
-pub mod Survey
+pub mod Arcs
 pub mod Rising
 pub mod Inserting
 pub mod Linking

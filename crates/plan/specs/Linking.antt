@@ -10,7 +10,7 @@ use Rattle.plan.specs.Plan.{Links}
 use Rattle.plan.specs.Rising.{In, Rising}
 use Rattle.fields.specs.Fields.{ShownIn, Seen}
 use Rattle.plan.specs.Inserting.{Inserted}
-use Rattle.plan.specs.Survey.{TooMany}
+use Rattle.plan.specs.Arcs.{TooMany}
 use Rattle.plan.specs.declared.Filled.{Filled}
 use Rattle.plan.specs.declared.Filled.the-variants.{To, NoRoom}
 

@@ -5,7 +5,7 @@ use native.Mathlib.Omega.{arith}
 use lib.ListN.{length}
 use lib.Seq.{length-take-le}
 use borrow.Author.Needs.{needs}
-use Rattle.plan.specs.Survey.{lists}
+use Rattle.survey.specs.Survey.{lists}
 use Rattle.opening.specs.Openings.{Lent, OpenedTo}
 use Rattle.floorwalk.proofs.walk.Statement.{statement}
 use Rattle.floorwalk.proofs.walk.Tie as tie

@@ -5,7 +5,7 @@ use native.Mathlib.Omega.{arith}
 use lib.ListN.{length}
 use denote.Ref.{now}
 use borrow.Author.Needs.{needs}
-use Rattle.plan.specs.Survey.{lists}
+use Rattle.survey.specs.Survey.{lists}
 use Rattle.writing.specs.Answers.{floorLine, surveyRefused}
 use Rattle.writing.proofs.Puts.{put-same}
 use Rattle.opening.specs.Openings.{Largest}

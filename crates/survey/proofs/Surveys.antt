@@ -15,12 +15,13 @@ use Rattle.floor.proofs.FreeCells.{free-cells-are}
 use Rattle.ground.specs.Kind.{walkers}
 use Rattle.marks.specs.Lists.{written}
 use Rattle.marks.specs.Marks.{ClearanceAt, cornerCells, Marks}
 use Rattle.plan.specs.Plan.{Links, Lists}
 use Rattle.marks.specs.Marking.{MarkedAll}
+use Rattle.plan.specs.Arcs.{TooMany}
 use Rattle.plan.specs.Linking.{AllLinked}
-use Rattle.plan.specs.Survey.{cornerCount, lentRows, earlyRows, TooMany, lastRow, lists, wipedAll, refusal, SurveyOutcome}
-use Rattle.plan.specs.declared.Surveyed.{Surveyed}
+use Rattle.survey.specs.Survey.{cornerCount, lentRows, earlyRows, lastRow, lists, wipedAll, refusal, SurveyOutcome}
+use Rattle.survey.specs.declared.Surveyed.{Surveyed}
 use Rattle.plan.proofs.Links.{links-built, built-unique}
 
 -- ---- tables
 -- where none of two tables' rows applies, none of either's does

@@ -1,13 +1,13 @@
--- `plan::survey_refusal` meets its contract: its tests are the rows 1 to 6 of the table, in their order. Assumes nothing.
+-- `survey::survey_refusal` meets its contract: its tests are the rows 1 to 6 of the table, in their order. Assumes nothing.
 use mathlib.Core.Logic.{inl, inr}
 use native.Mathlib.Omega.{arith}
 use Rattle.floor.specs.Refusals.{FirstOf}
 use Rattle.floor.specs.Words.{floorRows, Floor}
 use Rattle.floor.proofs.Accepted.{accepted}
-use Rattle.plan.proofs.Surveys.{early-floor, early-clear, early-corners, early-starts, early-none}
+use Rattle.survey.proofs.Surveys.{early-floor, early-clear, early-corners, early-starts, early-none}
 use borrow.Author.Needs.{needs}
-use Rattle.plan.proofs.survey_refusal.Statement.{statement}
-use Rattle.plan.proofs.survey_refusal.Tie as tie
+use Rattle.survey.proofs.survey_refusal.Statement.{statement}
+use Rattle.survey.proofs.survey_refusal.Tie as tie
 
 returns : tie.Need-returns
 returns c = early-floor _ _ _ _ _ _ _ (c .before .check-floor .ensures) (c .if1 .taken)

@@ -1,14 +1,14 @@
--- `plan::survey` meets its contract: each way out is an outcome that the promise allows. Assumes nothing.
+-- `survey::survey` meets its contract: each way out is an outcome that the promise allows. Assumes nothing.
 use Prim.Native.Nat.{_≤_}
 use mathlib.Core.Path.{sym, _∙_}
 use native.Mathlib.Omega.{arith}
 use lib.ListN.{length}
 use lib.Seq.{length-take-le}
 use Rattle.floor.proofs.Accepted.{few-words}
-use Rattle.plan.proofs.Surveys.{Passed, early-passed, corners-first, same-wiped, outcome-refused, outcome-full, outcome-done}
+use Rattle.survey.proofs.Surveys.{Passed, early-passed, corners-first, same-wiped, outcome-refused, outcome-full, outcome-done}
 use borrow.Author.Needs.{needs}
-use Rattle.plan.proofs.survey.Statement.{statement}
-use Rattle.plan.proofs.survey.Tie as tie
+use Rattle.survey.proofs.survey.Statement.{statement}
+use Rattle.survey.proofs.survey.Tie as tie
 
 returns : tie.Need-returns
 returns c = outcome-refused _ _ _ _ _ _ _ _ (c .before .before .survey-refusal .ensures) (c .before .if1 .taken) _ (c .refused .ensures)

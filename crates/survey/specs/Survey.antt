@@ -6,22 +6,15 @@ use mathlib.Core.Logic.{_⊎_}
 use lib.ListN.{length}
 use Rattle.floor.specs.Refusals.{Refusal, refuse, FirstOf}
 use Rattle.floor.specs.Words.{floorRows, freeCells}
-use Rattle.ground.specs.Kind.{walkers}
 use Rattle.marks.specs.Lists.{written, wiped}
 use Rattle.marks.specs.Marks.{cornerCells}
-use Rattle.plan.specs.Plan.{Links, Lists, PlanOf}
-use Rattle.plan.specs.declared.Surveyed.{Surveyed}
+use Rattle.plan.specs.Plan.{Lists, PlanOf}
+use Rattle.plan.specs.Arcs.{TooMany}
+use Rattle.survey.specs.declared.Surveyed.{Surveyed}
 
 -- K, the number of turning points
 abbrev pub cornerCount : ℕ → ℕ → List ℕ → ℕ
 cornerCount w h words = length (cornerCells w h words)
-
--- M is m: the neighbours of all turning points are m
-pub record Arcs (w h : ℕ) (words : List ℕ) (m : ℕ) : Type 0 where
-  pub starts : List ℕ
-  pub neighbours : List ℕ
-  pub links : Links walkers w h words (cornerCells w h words) starts neighbours
-  pub count : length neighbours ≡ m
 
 -- the rows 4 to 6 of document 01's table, of a floor and how many entries are lent for clearances, turning points and starts
 abbrev pub lentRows : ℕ → ℕ → List ℕ → ℕ → ℕ → ℕ → List Refusal
@@ -34,10 +27,6 @@ lentRows w h words bytes corners starts =
 -- the rows 1 to 6
 abbrev pub earlyRows : ℕ → ℕ → List ℕ → ℕ → ℕ → ℕ → List Refusal
 earlyRows w h words bytes corners starts = floorRows w h words ++ lentRows w h words bytes corners starts
-
--- M is above the entries lent or above 32,768
-abbrev pub TooMany : ℕ → ℕ → List ℕ → ℕ → Type 0
-TooMany w h words entries = (m : ℕ) × Arcs w h words m × ((entries < m) ⊎ (32768 < m))
 
 -- the row 7
 abbrev pub lastRow : ℕ → ℕ → List ℕ → ℕ → List Refusal

@@ -12,11 +12,11 @@ use Rattle.floor.proofs.Tables.{first-unique}
 use Rattle.ground.specs.Kind.{walkers}
 use Rattle.marks.specs.Lists.{written}
 use Rattle.marks.specs.Marks.{Cleared}
 use Rattle.plan.specs.Plan.{Links, Lists, PlanOf}
-use Rattle.plan.specs.Survey.{surveyRows, Done, Refused, SurveyOutcome}
-use Rattle.plan.specs.declared.Surveyed.{Surveyed}
+use Rattle.survey.specs.Survey.{surveyRows, Done, Refused, SurveyOutcome}
+use Rattle.survey.specs.declared.Surveyed.{Surveyed}
 use Rattle.marks.proofs.Recurrence.{one-clearance}
-use Rattle.plan.proofs.Surveys.{first-few, one-links}
+use Rattle.survey.proofs.Surveys.{first-few, one-links}
 
 -- four lists are the same where each is
 same-lists : (p q : Lists) → p .clear ≡ q .clear → p .corners ≡ q .corners → p .starts ≡ q .starts → p .neighbours ≡ q .neighbours → p ≡ q

@@ -1,8 +1,8 @@
--- `plan::wipe` meets its contract: each list is set to 0 by its own call. Assumes nothing.
-use Rattle.plan.proofs.Surveys.{lists-eq}
+-- `survey::wipe` meets its contract: each list is set to 0 by its own call. Assumes nothing.
+use Rattle.survey.proofs.Surveys.{lists-eq}
 use borrow.Author.Needs.{needs}
-use Rattle.plan.proofs.wipe.Statement.{statement}
-use Rattle.plan.proofs.wipe.Tie as tie
+use Rattle.survey.proofs.wipe.Statement.{statement}
+use Rattle.survey.proofs.wipe.Tie as tie
 
 returns : tie.Need-returns
 returns c =

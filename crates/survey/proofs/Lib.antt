@@ -1,0 +1,4 @@
+-- Laws that belong to no one function.
+pub mod Wipings
+pub mod Surveys
+pub mod SurveyOnly
