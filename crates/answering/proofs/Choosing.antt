@@ -11,7 +11,7 @@ use Rattle.ground.specs.Kind.{walkers}
 use Rattle.ground.specs.Walk.{Legal}
 use Rattle.ground.specs.Line.{line}
 use Rattle.ground.proofs.Numbers.{place-of-number, number-in}
-use Rattle.marks.specs.Lists.{written}
+use Rattle.corners.specs.Lists.{written}
 use Rattle.line.specs.Cells.{Cell}
 use Rattle.line.proofs.Runs.{cell-in}
 use Rattle.chain.specs.Route.{LineClear}

@@ -12,7 +12,7 @@ use Rattle.ground.specs.Kind.{walkers, octile}
 use Rattle.ground.specs.Walk.{NoWalk}
 use Rattle.ground.proofs.Least.{line-shortest}
 use Rattle.ground.proofs.Walks.{shortest-unique}
-use Rattle.marks.specs.Lists.{written}
+use Rattle.corners.specs.Lists.{written}
 use Rattle.chain.specs.Route.{LineClear, RouteOf, cellsOf}
 use Rattle.answering.specs.Asked.{Asked, startCell, goalCell, workSize, Distance, WalkFound, Billed}
 use Rattle.answering.specs.Steps.{LateOutcome}

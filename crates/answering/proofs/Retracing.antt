@@ -7,7 +7,7 @@ use native.Mathlib.Omega.{arith}
 use lib.ListN.{length}
 use Rattle.lengths.specs.Lengths.{lenOf}
 use Rattle.lengths.specs.declared.Length.{Length}
-use Rattle.marks.specs.Lists.{written}
+use Rattle.corners.specs.Lists.{written}
 use Rattle.places.specs.declared.Trip.{Trip}
 use Rattle.places.specs.Columns.{Next, Only}
 use Rattle.line.specs.Cells.{legs}

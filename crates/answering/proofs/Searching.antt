@@ -8,7 +8,7 @@ use native.Mathlib.Decide.{decLe}
 use native.Mathlib.Omega.{arith}
 use borrow.Author.Tests.{lt-ltb, le-ltb}
 use lib.ListN.{length, getD, drop, replicate, length-replicate, List·getD-eq-default}
-use Rattle.marks.specs.Lists.{written}
+use Rattle.corners.specs.Lists.{written}
 use Rattle.plan.specs.Plan.{Lists}
 use Rattle.effort.specs.Effort.{EffortFound, EffortLost}
 use Rattle.places.specs.declared.Trip.{Trip}

@@ -9,7 +9,7 @@ use Rattle.lengths.specs.Lengths.{Len}
 use Rattle.floor.specs.Board.{Place}
 use Rattle.ground.specs.Kind.{octile}
 use Rattle.ground.specs.Line.{line}
-use Rattle.marks.specs.Lists.{written}
+use Rattle.corners.specs.Lists.{written}
 use Rattle.line.specs.Cells.{after, steps, LineWritten}
 use Rattle.line.proofs.Firsts.{steps-octile}
 use Rattle.line.proofs.Legs.{line-cells}

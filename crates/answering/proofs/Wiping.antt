@@ -6,7 +6,7 @@ use native.Mathlib.Numerals.{add-one}
 use native.Mathlib.Omega.{arith}
 use lib.ListN.{length, drop, set, replicate, length-append, length-replicate, length-drop, replicate-append-replicate}
 use lib.Seq.{drop-cons, set-at}
-use Rattle.marks.specs.Lists.{written}
+use Rattle.corners.specs.Lists.{written}
 
 -- the list with its first i entries 0
 abbrev pub zeroed : ℕ → List ℕ → List ℕ

@@ -8,7 +8,7 @@ use Rattle.lengths.specs.Lengths.{Len}
 use Rattle.floor.specs.Board.{Place}
 use Rattle.ground.specs.Kind.{octile}
 use Rattle.ground.specs.Line.{line}
-use Rattle.marks.specs.Lists.{written}
+use Rattle.corners.specs.Lists.{written}
 use Rattle.plan.specs.Plan.{Lists}
 use Rattle.effort.specs.Effort.{Far, EffortFound, EffortLost}
 use Rattle.line.specs.Cells.{after}

@@ -6,7 +6,7 @@ use mathlib.Core.Logic.{_⊎_}
 use lib.ListN.{length}
 use Rattle.lengths.specs.Lengths.{Len}
 use Rattle.floor.specs.Words.{numberOf}
-use Rattle.marks.specs.Lists.{written}
+use Rattle.corners.specs.Lists.{written}
 use Rattle.plan.specs.Plan.{Lists}
 use Rattle.effort.specs.Effort.{Far, EffortFound}
 use Rattle.chain.specs.Route.{cellsOf, LineClear, RouteOf}

@@ -5,7 +5,7 @@ ghost use lib.ListN.{length, replicate};
 ghost use Rattle.lengths.specs.Lengths.{lenOf};
 ghost use Rattle.floor.specs.Board.{at};
 ghost use Rattle.floor.specs.Words.{numberOf};
-ghost use Rattle.marks.specs.Lists.{written};
+ghost use Rattle.corners.specs.Lists.{written};
 ghost use Rattle.places.specs.Columns.{Next, Only};
 ghost use Rattle.places.specs.Places.{Indexed};
 ghost use Rattle.line.specs.Cells.{Cell};

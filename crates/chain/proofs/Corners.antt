@@ -10,7 +10,7 @@ use Rattle.ground.specs.Kind.{walkers}
 use Rattle.ground.proofs.Logic.{true-or-false}
 use Rattle.plan.specs.Rising.{In, Rising}
 use Rattle.plan.specs.Plan.{Lists, PlanOf, LinkedCells}
-use Rattle.marks.specs.Marks.{cornerCell}
+use Rattle.corners.specs.Corners.{cornerCell}
 use Rattle.plan.proofs.Pickings.{picked-in, in-picked, select-in, in-select, select-rising}
 use Rattle.plan.proofs.Risings.{at-in, rising-later}
 use Rattle.plan.proofs.Parts.{part-in, in-part}

@@ -11,7 +11,7 @@ use Rattle.floor.specs.Words.{placeOf}
 use Rattle.ground.specs.Kind.{walkers}
 use Rattle.ground.proofs.Logic.{true-or-false}
 use Rattle.plan.specs.Plan.{Lists}
-use Rattle.marks.specs.Marks.{cornerCell}
+use Rattle.corners.specs.Corners.{cornerCell}
 use Rattle.plan.proofs.Links.{start-in}
 use Rattle.places.specs.Places.{indexOf, Ascending}
 use Rattle.places.specs.Chart.{Chart, Fair, cell}

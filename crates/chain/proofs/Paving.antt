@@ -10,7 +10,7 @@ use Rattle.lengths.specs.Lengths.{lenOf}
 use Rattle.lengths.specs.declared.Length.{Length}
 use Rattle.floor.specs.Words.{placeOf}
 use Rattle.ground.specs.Line.{line}
-use Rattle.marks.specs.Lists.{written}
+use Rattle.corners.specs.Lists.{written}
 use Rattle.places.specs.declared.Trip.{Trip}
 use Rattle.places.specs.Columns.{columnOf, Label, Next}
 use Rattle.places.specs.Places.{cellAt}

@@ -12,7 +12,7 @@ use Rattle.lengths.specs.Laws.{weight, le-or-lt}
 use Rattle.lengths.specs.Octile.{gap-suc}
 use Rattle.ground.proofs.Logic.{true-or-false, not-both}
 use Rattle.plan.specs.Plan.{Lists}
-use Rattle.marks.specs.Marks.{cornerCell}
+use Rattle.corners.specs.Corners.{cornerCell}
 use Rattle.effort.specs.Effort.{PlaceCell}
 use Rattle.effort.specs.Net.{Startable, apart as weighs}
 use Rattle.effort.proofs.Bridge.{trip-of, start-place, goal-place}

@@ -11,7 +11,7 @@ use Rattle.floor.specs.Words.{Floor, board, placeOf}
 use Rattle.ground.specs.Kind.{walkers}
 use Rattle.ground.specs.Link.{Direct}
 use Rattle.plan.specs.Plan.{Lists, Fits}
-use Rattle.marks.specs.Marks.{cornerCell}
+use Rattle.corners.specs.Corners.{cornerCell}
 use Rattle.places.specs.Places.{indexOf}
 use Rattle.places.specs.Chart.{Chart}
 use Rattle.chain.specs.Route.{LineClear}

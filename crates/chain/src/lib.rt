@@ -9,7 +9,7 @@ ghost use Rattle.lengths.specs.Lengths.{lenOf};
 ghost use Rattle.floor.specs.Refusals.{Tells};
 ghost use Rattle.floor.specs.Words.{placeOf};
 ghost use Rattle.ground.specs.Kind.{octile};
-ghost use Rattle.marks.specs.Lists.{written};
+ghost use Rattle.corners.specs.Lists.{written};
 ghost use Rattle.places.specs.Columns.{Next, Only};
 ghost use Rattle.places.specs.Places.{Indexed, cellAt, TwoCells};
 ghost use Rattle.search.specs.Tree.{Room};

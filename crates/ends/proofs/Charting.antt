@@ -12,7 +12,7 @@ use Rattle.floor.specs.Words.{board, placeOf}
 use Rattle.floor.proofs.Places.{padded}
 use Rattle.ground.proofs.Logic.{not-both}
 use Rattle.ground.proofs.Numbers.{same-cell}
-use Rattle.marks.specs.Marks.{cornerCell}
+use Rattle.corners.specs.Corners.{cornerCell}
 use Rattle.fields.specs.Fields.{Seen}
 use Rattle.plan.specs.Plan.{Lists, PlanOf}
 use Rattle.plan.proofs.Linked.{shown-direct, direct-shown}

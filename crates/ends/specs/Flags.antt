@@ -4,7 +4,7 @@ use mathlib.Core.List.{List}
 use mathlib.Core.Logic.{_⊎_}
 use mathlib.Core.Path.{_≡_}
 use lib.ListN.{length, getD}
-use Rattle.marks.specs.Marks.{cornerCells}
+use Rattle.corners.specs.Corners.{cornerCells}
 use Rattle.fields.specs.Fields.{Seen, Sweepable}
 use Rattle.places.specs.Columns.{columnOf, Only}
 use Rattle.places.specs.Places.{indexOf, Ascending}

@@ -7,7 +7,7 @@ use mathlib.Core.Path.{_≡_}
 use lib.ListN.{length, getD, drop}
 use Rattle.floor.specs.Board.{Free}
 use Rattle.floor.specs.Words.{Floor, board, placeOf}
-use Rattle.marks.specs.Marks.{cornerCell}
+use Rattle.corners.specs.Corners.{cornerCell}
 use Rattle.fields.specs.Fields.{Seen}
 use Rattle.plan.specs.Plan.{Lists, Fits}
 use Rattle.places.specs.Columns.{columnOf, Only}

@@ -57,7 +57,7 @@ fn flag_end(
     requires empty { ⌜ Empty n column (now work) ⌝ }
     ensures { λ r. ⌜ EndFlags w h (now (words .entry)) (now (corners .entry)) cell n column (now (work .entry)) (now (work .exit)) ⌝ }
 {
-    if !marks::corner_cell(words, w, h, cell) {
+    if !corners::corner_cell(words, w, h, cell) {
         flags::flag_links(words, w, h, clear, corners, work, n, column, cell);
     }
 }

@@ -17,7 +17,7 @@ use Rattle.floor.proofs.Places.{row-ends}
 use Rattle.floor.proofs.Tables.{first-unique, first-later}
 use Rattle.ground.specs.Kind.{walkers}
 use Rattle.ground.specs.Walk.{NoWalk}
-use Rattle.marks.specs.Marks.{cornerCells}
+use Rattle.corners.specs.Corners.{cornerCells}
 use Rattle.plan.specs.Plan.{Links, Lists, PlanOf, Fits}
 use Rattle.plan.specs.Arcs.{Arcs, TooMany}
 use Rattle.survey.specs.Survey.{lentRows, lastRow, earlyRows, surveyRows}

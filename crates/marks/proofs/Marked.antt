@@ -16,11 +16,11 @@ use Rattle.floor.proofs.Below.{below}
 use Rattle.ground.proofs.Logic.{and-right}
 use Rattle.ground.proofs.Cells.{column-inside, row-inside}
 use Rattle.marks.specs.Marks.{ClearanceAt, ClearedAt}
-use Rattle.marks.specs.Chunks.{Chunk, RowBits}
+use Rattle.corners.specs.Chunks.{Chunk, RowBits}
 use Rattle.marks.specs.Marking.{stepsTo, turnsTo, byBits, byNext, NextIn, rank, Right, Marking, MarkedAll}
 use Rattle.ground.proofs.Numbers.{number-of-cell, within, free-cell}
 use Rattle.marks.proofs.Recurrence.{clearance-small}
-use Rattle.marks.proofs.Chunks.{chunk-ends, row-told}
+use Rattle.corners.proofs.Chunks.{chunk-ends, row-told}
 use Rattle.marks.proofs.Orders.{row-above, rank-below, rank-tells, next-right}
 
 -- the entries of another cell are others

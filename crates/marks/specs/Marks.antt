@@ -1,26 +1,18 @@
 -- What marking finds of a floor (01, "Turning points, clearances, links"): clearances and turning points.
 use Prim.Native.Nat.{ℕ, _+_, _*_, _<_}
 use mathlib.Core.Path.{_≡_}
-use mathlib.Core.Bool.{Bool, false}
+use mathlib.Core.Bool.{false}
 use mathlib.Core.List.{List}
 use mathlib.Core.Logic.{_⊎_}
 use lib.ListN.{length, getD}
-use Rattle.floor.specs.Board.{Board, Place, Dir, dirAt, corner}
+use Rattle.floor.specs.Board.{Board, Place, Dir, dirAt}
 use Rattle.floor.specs.Words.{board, placeOf}
 use Rattle.ground.specs.Clearance.{Clearance}
-use Rattle.marks.specs.Lists.{select}
+use Rattle.corners.specs.Corners.{cornerCells}
 
 -- the clearance of a place, 0 where it is blocked
 abbrev pub ClearanceAt : Board → Dir → Place → ℕ → Type 0
 ClearanceAt B d p m = ((B (p .x) (p .y) ≡ false) × (m ≡ 0)) ⊎ Clearance B d p m
-
--- the cell with a number is a turning point
-abbrev pub cornerCell : ℕ → ℕ → List ℕ → ℕ → Bool
-cornerCell w h words c = corner (board w h words) (placeOf w c)
-
--- the turning points, ascending
-abbrev pub cornerCells : ℕ → ℕ → List ℕ → List ℕ
-cornerCells w h words = select (cornerCell w h words) (w * h)
 
 -- entry 4 c + d of the clearances is that of cell c in direction d
 abbrev pub ClearedAt : ℕ → ℕ → List ℕ → List ℕ → ℕ → ℕ → Type 0

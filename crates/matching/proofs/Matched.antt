@@ -8,8 +8,9 @@ use native.Mathlib.Omega.{arith}
 use lib.ListN.{length, getD}
 use Rattle.floor.specs.Words.{board, placeOf, Floor}
 use Rattle.ground.specs.Kind.{walkers}
-use Rattle.marks.specs.Lists.{Picked}
-use Rattle.marks.specs.Marks.{cornerCell, cornerCells, Cleared}
+use Rattle.corners.specs.Lists.{Picked}
+use Rattle.corners.specs.Corners.{cornerCell, cornerCells}
+use Rattle.marks.specs.Marks.{Cleared}
 use Rattle.fields.specs.Fields.{Seen, Sweepable}
 use Rattle.plan.specs.Plan.{LinkedCells, LinksTo}
 use Rattle.plan.specs.Rising.{In, Rising}

@@ -7,7 +7,7 @@ use native.Mathlib.Decide.{ℕ-discrete}
 use native.Mathlib.Omega.{arith}
 use lib.ListN.{length}
 use Rattle.floor.proofs.Places.{padded}
-use Rattle.marks.specs.Lists.{part}
+use Rattle.corners.specs.Lists.{part}
 use Rattle.fields.specs.Fields.{ShownIn, Sweepable, PassedRow}
 use Rattle.fields.specs.declared.RowEnd.{RowEnd}
 use Rattle.plan.specs.Rising.{In, Rising, insertion}

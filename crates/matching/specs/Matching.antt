@@ -5,7 +5,7 @@ use mathlib.Core.Logic.{_⊎_}
 use mathlib.Core.Path.{_≡_}
 use lib.ListN.{length, getD}
 use Rattle.ground.specs.Kind.{walkers}
-use Rattle.marks.specs.Lists.{part, Picked}
+use Rattle.corners.specs.Lists.{part, Picked}
 use Rattle.fields.specs.Fields.{ShownIn, Seen}
 use Rattle.plan.specs.Plan.{LinkedCells}
 use Rattle.plan.specs.Rising.{In, Rising}

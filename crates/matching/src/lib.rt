@@ -7,8 +7,9 @@ ghost use lib.ListN.{length};
 ghost use Rattle.floor.specs.Refusals.{Tells};
 ghost use Rattle.floor.specs.Words.{Floor};
 ghost use Rattle.ground.specs.Kind.{walkers};
-ghost use Rattle.marks.specs.Lists.{part, Picked};
-ghost use Rattle.marks.specs.Marks.{cornerCell, cornerCells, Cleared};
+ghost use Rattle.corners.specs.Lists.{part, Picked};
+ghost use Rattle.corners.specs.Corners.{cornerCell, cornerCells};
+ghost use Rattle.marks.specs.Marks.{Cleared};
 ghost use Rattle.plan.specs.Plan.{LinkedCells, Links, Fits};
 ghost use Rattle.plan.specs.Rising.{Rising};
 ghost use Rattle.fields.specs.Fields.{Sweepable};
@@ -224,7 +225,7 @@ pub fn matches(
     if !marks::clearances_match(words, w, h, clear) {
         return false;
     }
-    if !marks::corners_match(words, w, h, corners) {
+    if !corners::corners_match(words, w, h, corners) {
         return false;
     }
     links_match(words, w, h, clear, corners, starts, neighbours)

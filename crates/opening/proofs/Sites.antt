@@ -9,7 +9,7 @@ use lib.Seq.{take-at, length-take-le}
 use Rattle.floor.specs.Refusals.{Refusal, FirstOf, Numbered}
 use Rattle.floor.specs.Words.{rowWords, freeCells, floorRows, Floor}
 use Rattle.floor.proofs.Accepted.{accepted}
-use Rattle.marks.specs.Lists.{written}
+use Rattle.corners.specs.Lists.{written}
 use Rattle.plan.specs.Plan.{Lists, PlanOf}
 use Rattle.survey.specs.Survey.{lentRows, lastRow, Done, SurveyOutcome}
 use Rattle.survey.specs.declared.Surveyed.{Surveyed}

@@ -5,7 +5,7 @@ use mathlib.Core.Path.{_≡_, sym, _∙_, subst}
 use native.Mathlib.Decide.{ℕ-discrete}
 use native.Mathlib.Omega.{arith}
 use lib.ListN.{length}
-use Rattle.marks.specs.Lists.{part}
+use Rattle.corners.specs.Lists.{part}
 use Rattle.plan.specs.Rising.{In, Rising}
 use Rattle.fields.specs.Fields.{ShownIn}
 use Rattle.plan.specs.Linking.{Finding, Grown, FieldSwept, OneLinked}

@@ -8,7 +8,7 @@ use native.Mathlib.Nat.{le-trans}
 use native.Mathlib.Omega.{arith}
 use lib.ListN.{length, getD, take, drop, length-append, length-drop, List·getD-append}
 use lib.Seq.{take-at, drop-at, getD-take, getD-drop, getD-append-add, length-take-le}
-use Rattle.marks.specs.Lists.{part}
+use Rattle.corners.specs.Lists.{part}
 use Rattle.plan.specs.Rising.{In, Rising, insertion}
 use Rattle.plan.specs.Inserting.{spliced, Inserted}
 use Rattle.plan.specs.Linking.{PutShown, Finding, Crowded, Grown}

@@ -10,7 +10,7 @@ use lib.Dec.{ltb, eqb}
 use lib.ListN.{length, getD, take, drop, set, length-append, length-take, length-drop, take-append-drop, List·getD-append}
 use lib.Seq.{take-nil, drop-nil, take-take, take-add, drop-drop, getD-take, getD-drop, take-suc, set-at, length-take-le, drop-cons}
 use borrow.Author.Tests.{lt-ltb, le-ltb, eq-eqb, ne-eqb}
-use Rattle.marks.specs.Lists.{part}
+use Rattle.corners.specs.Lists.{part}
 use Rattle.plan.specs.Rising.{insertion}
 use Rattle.plan.specs.Inserting.{Found, spliced, Inserted}
 use Rattle.plan.specs.declared.Filled.the-variants.{To, NoRoom}

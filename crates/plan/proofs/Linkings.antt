@@ -9,15 +9,15 @@ use native.Mathlib.Omega.{arith}
 use lib.ListN.{length, getD, take, drop, set, length-set, length-append, length-drop, List·getD-append}
 use lib.Seq.{drop-cons, drop-set-lt, ext-getD, getD-take, getD-drop, getD-append-add, length-take-le}
 use Rattle.ground.specs.Kind.{walkers}
-use Rattle.marks.specs.Lists.{part, written}
-use Rattle.marks.specs.Marks.{cornerCell, cornerCells}
+use Rattle.corners.specs.Lists.{part, written}
+use Rattle.corners.specs.Corners.{cornerCell, cornerCells}
 use Rattle.plan.specs.Rising.{In}
 use Rattle.plan.specs.Arcs.{Arcs}
 use Rattle.plan.specs.Linking.{Grown, OneLinked, AllLinked}
 use Rattle.plan.specs.declared.Filled.the-variants.{To, NoRoom}
 use Rattle.plan.proofs.Insertions.{part-length, spliced-self}
 use Rattle.plan.proofs.Risings.{rising-fewer}
-use Rattle.marks.proofs.Selects.{written-long, written-more}
+use Rattle.corners.proofs.Selects.{written-long, written-more}
 use Rattle.plan.proofs.Pickings.{picked-exists, picked-rising, in-picked, rising-picked, select-rising}
 use Rattle.plan.proofs.Links.{Row, Built, none, more, built-links, built-grows, built-exists}
 use Rattle.plan.proofs.Seens.{linked-dec, corner-entry, seen-linked, linked-seen}

@@ -9,7 +9,7 @@ use native.Mathlib.Omega.{arith}
 use lib.ListN.{length, getD, take, drop, length-append, length-take, length-drop, take-append-drop, List·getD-append}
 use lib.Seq.{take-suc, take-all, take-append-le, drop-append-le, drop-append-seam, getD-take, getD-at, length-take-le}
 use Rattle.ground.specs.Kind.{Kind}
-use Rattle.marks.specs.Lists.{part, Picked}
+use Rattle.corners.specs.Lists.{part, Picked}
 use Rattle.plan.specs.Plan.{LinkedCells, LinksTo}
 use Rattle.plan.proofs.Pickings.{picked-unique, picked-exists}
 

@@ -6,7 +6,7 @@ use mathlib.Core.Path.{_≡_, sym, _∙_, ap, subst}
 use native.Mathlib.Omega.{arith}
 use lib.ListN.{length, getD}
 use Rattle.lengths.specs.Laws.{le-or-lt}
-use Rattle.marks.specs.Lists.{part}
+use Rattle.corners.specs.Lists.{part}
 use Rattle.plan.specs.Rising.{In, Rising}
 use Rattle.plan.specs.Inserting.{Found}
 use Rattle.plan.proofs.Risings.{at-in, rising-later, steps-rising}

@@ -6,7 +6,7 @@ use mathlib.Core.Logic.{_⊎_, inl, inr, ⊎-elim}
 use mathlib.Core.Path.{_≡_, refl, sym, ap, subst}
 use native.Mathlib.Decide.{ℕ-discrete}
 use native.Mathlib.Omega.{arith}
-use Rattle.marks.specs.Lists.{select, Picked, none, taken, passed}
+use Rattle.corners.specs.Lists.{select, Picked, none, taken, passed}
 use Rattle.plan.specs.Rising.{In, Above, Rising}
 use Rattle.plan.proofs.Risings.{all-above, rising-same, above-in}
 

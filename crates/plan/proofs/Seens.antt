@@ -13,7 +13,7 @@ use Rattle.ground.specs.Kind.{walkers}
 use Rattle.ground.specs.Link.{Direct, Link}
 use Rattle.ground.proofs.Choose.{place-discrete}
 use Rattle.ground.proofs.Joined.{direct-dec}
-use Rattle.marks.specs.Marks.{cornerCell, cornerCells}
+use Rattle.corners.specs.Corners.{cornerCell, cornerCells}
 use Rattle.plan.specs.Plan.{LinkedCells}
 use Rattle.plan.specs.Rising.{In}
 use Rattle.plan.specs.Linking.{Crowded}

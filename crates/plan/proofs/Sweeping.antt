@@ -8,7 +8,7 @@ use native.Mathlib.Omega.{arith}
 use lib.ListN.{length}
 use Rattle.floor.specs.Board.{at, dirAt}
 use Rattle.floor.specs.Words.{board, placeOf}
-use Rattle.marks.specs.Lists.{part}
+use Rattle.corners.specs.Lists.{part}
 use Rattle.plan.specs.Rising.{In}
 use Rattle.fields.specs.Fields.{slant, side, Come, Coming, PassedRow, ShownIn, Seen, Sweepable}
 use Rattle.plan.specs.Linking.{PutShown, Finding, Crowded, Grown}

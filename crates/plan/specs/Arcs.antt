@@ -5,7 +5,7 @@ use mathlib.Core.List.{List}
 use mathlib.Core.Logic.{_⊎_}
 use lib.ListN.{length}
 use Rattle.ground.specs.Kind.{walkers}
-use Rattle.marks.specs.Marks.{cornerCells}
+use Rattle.corners.specs.Corners.{cornerCells}
 use Rattle.plan.specs.Plan.{Links}
 
 -- M is m: the neighbours of all turning points are m

@@ -4,7 +4,7 @@ use mathlib.Core.List.{List, _++_}
 use mathlib.Core.Logic.{_⊎_}
 use mathlib.Core.Path.{_≡_}
 use lib.ListN.{length, getD, take, drop}
-use Rattle.marks.specs.Lists.{part}
+use Rattle.corners.specs.Lists.{part}
 use Rattle.plan.specs.Rising.{insertion}
 use Rattle.plan.specs.declared.Filled.{Filled}
 use Rattle.plan.specs.declared.Filled.the-variants.{To, NoRoom}

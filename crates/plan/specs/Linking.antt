@@ -5,7 +5,7 @@ use mathlib.Core.Logic.{_⊎_}
 use mathlib.Core.Path.{_≡_}
 use lib.ListN.{length, getD}
 use Rattle.ground.specs.Kind.{walkers}
-use Rattle.marks.specs.Lists.{part, written}
+use Rattle.corners.specs.Lists.{part, written}
 use Rattle.plan.specs.Plan.{Links}
 use Rattle.plan.specs.Rising.{In, Rising}
 use Rattle.fields.specs.Fields.{ShownIn, Seen}

@@ -6,7 +6,7 @@ use lib.ListN.{length, getD}
 use Rattle.floor.specs.Words.{board, placeOf}
 use Rattle.ground.specs.Kind.{Kind, walkers}
 use Rattle.ground.specs.Link.{Link}
-use Rattle.marks.specs.Lists.{part, Picked}
+use Rattle.corners.specs.Lists.{part, Picked}
 use Rattle.marks.specs.Marks.{Marks}
 
 -- two cells, by number, are linked: Definition 3 on the floor's board

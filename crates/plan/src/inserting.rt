@@ -4,7 +4,7 @@ ghost use mathlib.Core.Path.{_≡_};
 ghost use Prim.Native.Nat.{suc, _<_, _≤_};
 ghost use lib.ListN.{length, getD, take, drop};
 ghost use Rattle.floor.specs.Refusals.{Tells};
-ghost use Rattle.marks.specs.Lists.{part};
+ghost use Rattle.corners.specs.Lists.{part};
 ghost use Rattle.plan.specs.Rising.{In, Rising};
 ghost use Rattle.plan.specs.Inserting.{Found, Inserted};
 use super::Filled;

@@ -12,9 +12,9 @@ use lib.ListN.{length}
 use Rattle.floor.specs.Board.{corner}
 use Rattle.floor.specs.Words.{board, placeOf}
 use Rattle.ground.proofs.Logic.{true-or-false}
-use Rattle.marks.specs.Lists.{select}
-use Rattle.marks.specs.Marks.{cornerCell}
-use Rattle.marks.proofs.Selects.{select-none, length-taken, length-passed}
+use Rattle.corners.specs.Lists.{select}
+use Rattle.corners.specs.Corners.{cornerCell}
+use Rattle.corners.proofs.Selects.{select-none, length-taken, length-passed}
 use Rattle.plan.specs.Plan.{Fits}
 use Rattle.settling.specs.Counts.{Counts, empty, with, without, below}
 use Rattle.effort.proofs.Bounds.{found-bound, lost-bound}

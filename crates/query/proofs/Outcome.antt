@@ -11,7 +11,7 @@ use Rattle.lengths.specs.Laws.{le-or-lt}
 use Rattle.floor.specs.Refusals.{Refusal, FirstOf}
 use Rattle.floor.proofs.Tables.{first-unique}
 use Rattle.ground.proofs.Walks.{shortest-unique}
-use Rattle.marks.specs.Lists.{written}
+use Rattle.corners.specs.Lists.{written}
 use Rattle.plan.specs.Rising.{In}
 use Rattle.effort.proofs.Bounds.{found-unique, lost-unique}
 use Rattle.chain.specs.Route.{cellsOf}

@@ -12,8 +12,8 @@ use Rattle.floor.specs.Board.{Dir}
 use Rattle.floor.specs.Words.{board, placeOf}
 use Rattle.ground.specs.Kind.{walkers}
 use Rattle.ground.specs.Walk.{Walk, len}
-use Rattle.marks.specs.Lists.{written}
-use Rattle.marks.proofs.Selects.{written-long}
+use Rattle.corners.specs.Lists.{written}
+use Rattle.corners.proofs.Selects.{written-long}
 use Rattle.plan.specs.Rising.{In}
 use Rattle.effort.specs.Net.{Startable}
 use Rattle.line.specs.Cells.{after}

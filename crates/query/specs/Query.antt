@@ -11,7 +11,7 @@ use Rattle.floor.specs.Refusals.{Refusal, refuse, FirstOf}
 use Rattle.floor.specs.Words.{floorRows, board, placeOf}
 use Rattle.ground.specs.Kind.{walkers}
 use Rattle.ground.specs.Walk.{NoWalk}
-use Rattle.marks.specs.Lists.{written}
+use Rattle.corners.specs.Lists.{written}
 use Rattle.plan.specs.Plan.{Fits}
 use Rattle.effort.specs.Effort.{EffortLost}
 use Rattle.chain.specs.Route.{cellsOf}

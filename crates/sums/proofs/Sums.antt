@@ -20,7 +20,7 @@ use Rattle.ground.specs.Clearance.{Clearance}
 use Rattle.ground.specs.Certificate.{Claim, Certified, certifies}
 use Rattle.ground.proofs.Joined.{joined-iff-direct}
 use Rattle.ground.proofs.Certificate.{certifies-certified, certified-shortest, certified-none}
-use Rattle.marks.specs.Lists.{select}
+use Rattle.corners.specs.Lists.{select}
 use Rattle.plan.specs.Plan.{LinkedCells}
 use Rattle.ground.proofs.Numbers.{within}
 use Rattle.marks.proofs.Recurrence.{clearance-none, clearance-one, clearance-more}

@@ -9,7 +9,8 @@ use Rattle.floor.specs.Words.{board, placeOf, rowOf}
 use Rattle.ground.specs.Kind.{walkers}
 use Rattle.ground.specs.Walk.{Legal, NoWalk}
 use Rattle.ground.specs.Line.{line}
-use Rattle.marks.specs.Marks.{ClearanceAt, cornerCells}
+use Rattle.corners.specs.Corners.{cornerCells}
+use Rattle.marks.specs.Marks.{ClearanceAt}
 use Rattle.plan.specs.Plan.{LinkedCells}
 use Rattle.effort.specs.Effort.{Far, EffortFound, EffortLost}
 use Rattle.sums.specs.Drawing.{hall, bent, split, barred}

@@ -10,7 +10,7 @@ use Rattle.floor.specs.Board.{dirAt}
 use Rattle.floor.specs.Words.{board, placeOf}
 use Rattle.floor.proofs.Tables.{first-unique}
 use Rattle.ground.specs.Kind.{walkers}
-use Rattle.marks.specs.Lists.{written}
+use Rattle.corners.specs.Lists.{written}
 use Rattle.marks.specs.Marks.{Cleared}
 use Rattle.plan.specs.Plan.{Links, Lists, PlanOf}
 use Rattle.survey.specs.Survey.{surveyRows, Done, Refused, SurveyOutcome}

@@ -13,8 +13,9 @@ use Rattle.floor.proofs.Tables.{first-here, first-later}
 use Rattle.floor.proofs.Accepted.{accepted}
 use Rattle.floor.proofs.FreeCells.{free-cells-are}
 use Rattle.ground.specs.Kind.{walkers}
-use Rattle.marks.specs.Lists.{written}
-use Rattle.marks.specs.Marks.{ClearanceAt, cornerCells, Marks}
+use Rattle.corners.specs.Lists.{written}
+use Rattle.corners.specs.Corners.{cornerCells}
+use Rattle.marks.specs.Marks.{ClearanceAt, Marks}
 use Rattle.plan.specs.Plan.{Links, Lists}
 use Rattle.marks.specs.Marking.{MarkedAll}
 use Rattle.plan.specs.Arcs.{TooMany}

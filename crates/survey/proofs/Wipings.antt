@@ -4,8 +4,8 @@ use mathlib.Core.List.{List, [], _∷_, _++_, append-nil}
 use mathlib.Core.Path.{_≡_, refl, _∙_, ap, subst}
 use native.Mathlib.Omega.{arith}
 use lib.ListN.{length, set, replicate, length-replicate, replicate-append-replicate, drop-of-length-le}
-use Rattle.marks.specs.Lists.{written, wiped}
-use Rattle.marks.proofs.Selects.{written-long, written-more}
+use Rattle.corners.specs.Lists.{written, wiped}
+use Rattle.corners.proofs.Selects.{written-long, written-more}
 
 -- the first i entries are 0, and the others as they were lent
 pub record Wiped (lent now : List ℕ) (i : ℕ) : Type 0 where

@@ -6,8 +6,8 @@ use mathlib.Core.Logic.{_⊎_}
 use lib.ListN.{length}
 use Rattle.floor.specs.Refusals.{Refusal, refuse, FirstOf}
 use Rattle.floor.specs.Words.{floorRows, freeCells}
-use Rattle.marks.specs.Lists.{written, wiped}
-use Rattle.marks.specs.Marks.{cornerCells}
+use Rattle.corners.specs.Lists.{written, wiped}
+use Rattle.corners.specs.Corners.{cornerCells}
 use Rattle.plan.specs.Plan.{Lists, PlanOf}
 use Rattle.plan.specs.Arcs.{TooMany}
 use Rattle.survey.specs.declared.Surveyed.{Surveyed}

@@ -2,7 +2,7 @@
 ghost use mathlib.Core.Path.{_≡_};
 ghost use lib.ListN.{length};
 ghost use Rattle.floor.specs.Refusals.{FirstOf};
-ghost use Rattle.marks.specs.Lists.{wiped};
+ghost use Rattle.corners.specs.Lists.{wiped};
 ghost use Rattle.survey.specs.Survey.{earlyRows, lists, wipedAll, refusal, SurveyOutcome};
 use plan::Filled;
 
@@ -77,7 +77,7 @@ fn survey_refusal(
     if clear.len() < 4 * (w * h) {
         return 4;
     }
-    let k = marks::count_corners(words, w, h);
+    let k = corners::count_corners(words, w, h);
     if corners.len() < k {
         return 5;
     }
@@ -107,8 +107,8 @@ pub fn survey(
         return refused(bad);
     }
     marks::mark_clearances(words, w, h, clear);
-    marks::mark_corners(words, w, h, corners);
-    let k = marks::count_corners(words, w, h);
+    corners::mark_corners(words, w, h, corners);
+    let k = corners::count_corners(words, w, h);
     let linked = plan::link(words, w, h, clear, &corners[..k], starts, neighbours);
     let Filled::To(m) = linked else {
         wipe(clear, corners, starts, neighbours);

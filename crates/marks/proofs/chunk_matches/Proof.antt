@@ -9,7 +9,7 @@ use borrow.Author.Count.{below-none, below-more}
 use Rattle.floor.specs.Words.{board, placeOf}
 use Rattle.floor.proofs.Tables.{found, missing}
 use Rattle.marks.specs.Marking.{byNext, ChunkAgrees}
-use Rattle.marks.proofs.Chunks.{chunk-ends}
+use Rattle.corners.proofs.Chunks.{chunk-ends}
 use Rattle.marks.proofs.Marked.{bits-next, bits-in}
 use Rattle.marks.proofs.chunk_matches.Statement.{statement}
 use Rattle.marks.proofs.chunk_matches.Tie as tie

@@ -5,7 +5,7 @@ use native.Mathlib.Omega.{arith}
 use denote.Ref.{now}
 use borrow.Author.Needs.{needs}
 use Rattle.marks.specs.Marking.{rank, Marking}
-use Rattle.marks.proofs.Chunks.{chunk-ends}
+use Rattle.corners.proofs.Chunks.{chunk-ends}
 use Rattle.marks.proofs.Marked.{so-marked, bits-ready, bits-marked}
 use Rattle.marks.proofs.mark_down.Statement.{statement}
 use Rattle.marks.proofs.mark_down.Tie as tie

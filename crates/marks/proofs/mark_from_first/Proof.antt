@@ -4,7 +4,7 @@ use mathlib.Core.Path.{_≡_}
 use native.Mathlib.Omega.{arith}
 use borrow.Author.Needs.{needs}
 use Rattle.marks.specs.Marking.{Marking}
-use Rattle.marks.proofs.Chunks.{chunk-ends, next-begins, first-begins}
+use Rattle.corners.proofs.Chunks.{chunk-ends, next-begins, first-begins}
 use Rattle.marks.proofs.Marked.{none-marked, marked-on}
 use Rattle.marks.proofs.mark_from_first.Statement.{statement}
 use Rattle.marks.proofs.mark_from_first.Tie as tie

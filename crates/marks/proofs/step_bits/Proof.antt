@@ -5,7 +5,7 @@ use borrow.Author.Needs.{needs}
 use Rattle.floor.specs.Words.{board}
 use Rattle.marks.specs.Marking.{stepsTo}
 use Rattle.ground.proofs.Numbers.{column-in, row-in}
-use Rattle.marks.proofs.Chunks.{row-bits}
+use Rattle.corners.proofs.Chunks.{row-bits}
 use Rattle.marks.proofs.step_bits.Statement.{statement}
 use Rattle.marks.proofs.step_bits.Tie as tie
 

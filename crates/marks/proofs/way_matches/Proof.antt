@@ -7,7 +7,7 @@ use borrow.Author.Needs.{needs}
 use borrow.Author.Count.{below-none}
 use Rattle.floor.proofs.Tables.{found, missing}
 use Rattle.marks.specs.Marking.{WayAgrees}
-use Rattle.marks.proofs.Chunks.{chunk-ends, next-begins, first-begins}
+use Rattle.corners.proofs.Chunks.{chunk-ends, next-begins, first-begins}
 use Rattle.marks.proofs.Orders.{agree-more}
 use Rattle.marks.proofs.way_matches.Statement.{statement}
 use Rattle.marks.proofs.way_matches.Tie as tie

@@ -6,7 +6,7 @@ use native.Mathlib.Omega.{arith}
 use borrow.Author.Needs.{needs}
 use borrow.Author.Tests.{not-true, not-false, eqb-true, eqb-false}
 use Rattle.floor.proofs.Tables.{missing}
-use Rattle.marks.specs.Lists.{part}
+use Rattle.corners.specs.Lists.{part}
 use Rattle.plan.proofs.Insertions.{part-length}
 use Rattle.matching.specs.Matching.{Tallied}
 use Rattle.matching.proofs.Tallying.{tallied-none}

@@ -7,8 +7,8 @@ use borrow.Author.Count.{below-none, below-more}
 use lib.ListN.{length, getD}
 use Rattle.floor.proofs.Tables.{found, missing}
 use Rattle.ground.specs.Kind.{walkers}
-use Rattle.marks.specs.Lists.{part, Picked}
-use Rattle.marks.specs.Marks.{cornerCells}
+use Rattle.corners.specs.Lists.{part, Picked}
+use Rattle.corners.specs.Corners.{cornerCells}
 use Rattle.plan.specs.Plan.{LinkedCells}
 use Rattle.matching.proofs.Matched.{corner-ready, started-in}
 use Rattle.matching.proofs.rows_match.Statement.{statement}

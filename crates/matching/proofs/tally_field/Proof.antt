@@ -2,7 +2,7 @@
 use Prim.Native.Nat.{_-_}
 use native.Mathlib.Omega.{arith}
 use borrow.Author.Needs.{needs}
-use Rattle.marks.specs.Lists.{part}
+use Rattle.corners.specs.Lists.{part}
 use Rattle.plan.proofs.Sweeping.{few-shown, row-ready, passed-fewer}
 use Rattle.matching.proofs.Tallying.{Tallying, tallied-room, tallying-begin, tallying-next, tallying-missing, tallying-end}
 use Rattle.matching.proofs.tally_field.Statement.{statement}

@@ -5,7 +5,7 @@ use mathlib.Core.Path.{_≡_, refl, _∙_, ap}
 use native.Mathlib.Omega.{arith}
 use borrow.Author.Needs.{needs}
 use lib.ListN.{length, getD, take, drop, set, length-set}
-use Rattle.marks.specs.Lists.{part}
+use Rattle.corners.specs.Lists.{part}
 use Rattle.plan.proofs.Insertions.{shift-none, shift-step}
 use Rattle.plan.proofs.inserting.shift_on.Statement.{statement}
 use Rattle.plan.proofs.inserting.shift_on.Tie as tie

@@ -6,7 +6,7 @@ use borrow.Author.Needs.{needs}
 use lib.ListN.{length, set, length-set}
 use lib.Seq.{getD-set-same}
 use Rattle.ground.proofs.Cells.{corner-free}
-use Rattle.marks.specs.Marks.{cornerCells}
+use Rattle.corners.specs.Corners.{cornerCells}
 use Rattle.plan.proofs.Linkings.{Linking, linking-begin, entry-turns, starts-long, list-long, linking-end, linking-next, linking-full}
 use Rattle.plan.proofs.linking.link.Statement.{statement}
 use Rattle.plan.proofs.linking.link.Tie as tie

@@ -1,8 +1,8 @@
--- `marks::corner_cell` meets its contract: a cell has a column and a row. Assumes nothing.
+-- `corners::corner_cell` meets its contract: a cell has a column and a row. Assumes nothing.
 use borrow.Author.Needs.{needs}
 use Rattle.ground.proofs.Numbers.{column-in, row-in}
-use Rattle.marks.proofs.corner_cell.Statement.{statement}
-use Rattle.marks.proofs.corner_cell.Tie as tie
+use Rattle.corners.proofs.corner_cell.Statement.{statement}
+use Rattle.corners.proofs.corner_cell.Tie as tie
 
 corner-at-requires : tie.Need-corner-at-requires
 corner-at-requires c κs =

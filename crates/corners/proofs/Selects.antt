@@ -9,7 +9,7 @@ use native.Mathlib.Numerals.{add-one}
 use native.Mathlib.Omega.{arith}
 use lib.ListN.{length, getD, set, take, drop, length-append, length-drop}
 use lib.Seq.{drop-cons, append-snoc, set-append-seam, take-suc, getD-append-seam}
-use Rattle.marks.specs.Lists.{written, select}
+use Rattle.corners.specs.Lists.{written, select}
 
 module _ (f : ℕ → Bool) where
   -- none is below 0

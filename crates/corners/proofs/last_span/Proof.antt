@@ -1,11 +1,11 @@
--- `marks::last_span` meets its contract: as many cells as the last one's column is past the begin of its word. Assumes nothing.
+-- `corners::last_span` meets its contract: as many cells as the last one's column is past the begin of its word. Assumes nothing.
 use Prim.Native.Nat.{_-_, _%_, _<_}
 use native.Mathlib.Omega.{arith}
 use borrow.Author.Needs.{needs}
 use Rattle.ground.proofs.Numbers.{column-in}
-use Rattle.marks.proofs.Chunks.{last-chunk}
-use Rattle.marks.proofs.last_span.Statement.{statement}
-use Rattle.marks.proofs.last_span.Tie as tie
+use Rattle.corners.proofs.Chunks.{last-chunk}
+use Rattle.corners.proofs.last_span.Statement.{statement}
+use Rattle.corners.proofs.last_span.Tie as tie
 
 rem-result : tie.Need-rem-result
 rem-result c =

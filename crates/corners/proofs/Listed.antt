@@ -10,9 +10,9 @@ use lib.Seq.{take-length, drop-append-seam, drop-append-add, drop-drop}
 use borrow.Author.Tests.{ltb-true, eqb-true, eqb-false, lt-ltb, eq-eqb}
 use Rattle.floor.specs.Refusals.{Tells}
 use Rattle.ground.proofs.Logic.{and-left, and-right, not-both}
-use Rattle.marks.specs.Lists.{select}
-use Rattle.marks.specs.Listing.{Written, Read, Told}
-use Rattle.marks.proofs.Selects.{select-none, select-taken, length-taken, select-first, select-same, select-fewer, select-entry, written-long, written-more, take-more}
+use Rattle.corners.specs.Lists.{select}
+use Rattle.corners.specs.Listing.{Written, Read, Told}
+use Rattle.corners.proofs.Selects.{select-none, select-taken, length-taken, select-first, select-same, select-fewer, select-entry, written-long, written-more, take-more}
 
 module _ (f : ℕ → Bool) where
   -- ---- written

@@ -1,4 +1,4 @@
--- `marks::chunk_listed` meets its contract: the loop's invariant: the first `to` entries are the turning points among the cells passed. Assumes nothing.
+-- `corners::chunk_listed` meets its contract: the loop's invariant: the first `to` entries are the turning points among the cells passed. Assumes nothing.
 use Prim.Native.Nat.{ℕ, _+_, _-_, _*_, _≤_, _<_}
 use mathlib.Core.Bool.{true}
 use mathlib.Core.Path.{_≡_, sym, subst, _∙_}
@@ -6,13 +6,13 @@ use native.Mathlib.Nat.{add-zero}
 use native.Mathlib.Omega.{arith}
 use denote.Ref.{now}
 use borrow.Author.Needs.{needs}
-use Rattle.marks.specs.Listing.{Read}
-use Rattle.marks.specs.Marks.{cornerCell}
-use Rattle.marks.proofs.Selects.{select-few}
-use Rattle.marks.proofs.Chunks.{UpTo, chunk-ends, none-between, next-told}
-use Rattle.marks.proofs.Listed.{read-taken, read-none, read-told, refused-told}
-use Rattle.marks.proofs.chunk_listed.Statement.{statement}
-use Rattle.marks.proofs.chunk_listed.Tie as tie
+use Rattle.corners.specs.Listing.{Read}
+use Rattle.corners.specs.Corners.{cornerCell}
+use Rattle.corners.proofs.Selects.{select-few}
+use Rattle.corners.proofs.Chunks.{UpTo, chunk-ends, none-between, next-told}
+use Rattle.corners.proofs.Listed.{read-taken, read-none, read-told, refused-told}
+use Rattle.corners.proofs.chunk_listed.Statement.{statement}
+use Rattle.corners.proofs.chunk_listed.Tie as tie
 
 abbrev Inv-loop : tie.InvT-loop
 Inv-loop words w h corners cell count k mask to₀ i₀ to i = UpTo count mask (λ s. Read (cornerCell w h words) corners (cell + s) to) i

@@ -14,9 +14,9 @@ use Rattle.masks.specs.Masks.{bitSet, Mask}
 use Rattle.masks.proofs.Bits.{half-bit, ones-are}
 use Rattle.floor.proofs.Sums.{sum-same, sum-none, sum-add}
 use Rattle.ground.proofs.Logic.{true-or-false}
-use Rattle.marks.specs.Lists.{select}
-use Rattle.marks.specs.Chunks.{Span, inRow, NextBit}
-use Rattle.marks.proofs.Selects.{length-taken, length-passed}
+use Rattle.corners.specs.Lists.{select}
+use Rattle.corners.specs.Chunks.{Span, inRow, NextBit}
+use Rattle.corners.proofs.Selects.{length-taken, length-passed}
 
 -- the bits below the lowest that is 1 are 0
 clear-below : (k n j : ℕ) → j < trailingZeros k n → bitSet n j ≡ false

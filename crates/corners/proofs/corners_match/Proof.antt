@@ -1,15 +1,15 @@
--- `marks::corners_match` meets its contract: the loop's invariant: the first k entries are the turning points among the cells passed. Assumes nothing.
+-- `corners::corners_match` meets its contract: the loop's invariant: the first k entries are the turning points among the cells passed. Assumes nothing.
 use Prim.Native.Nat.{_-_, _*_, _%_, _≤_}
 use mathlib.Core.Path.{_≡_}
 use native.Mathlib.Omega.{arith}
 use borrow.Author.Needs.{needs}
 use Rattle.floor.proofs.Tables.{missing}
-use Rattle.marks.specs.Listing.{Read}
-use Rattle.marks.specs.Marks.{cornerCell}
-use Rattle.marks.proofs.Chunks.{chunk-ends, next-begins, first-begins}
-use Rattle.marks.proofs.Listed.{none-read, read-all}
-use Rattle.marks.proofs.corners_match.Statement.{statement}
-use Rattle.marks.proofs.corners_match.Tie as tie
+use Rattle.corners.specs.Listing.{Read}
+use Rattle.corners.specs.Corners.{cornerCell}
+use Rattle.corners.proofs.Chunks.{chunk-ends, next-begins, first-begins}
+use Rattle.corners.proofs.Listed.{none-read, read-all}
+use Rattle.corners.proofs.corners_match.Statement.{statement}
+use Rattle.corners.proofs.corners_match.Tie as tie
 
 abbrev Inv-loop : tie.InvT-loop
 Inv-loop words w h corners k₀ cell₀ k cell = (cell ≤ w * h) × (cell % w % 64 ≡ 0) × Read (cornerCell w h words) corners cell k

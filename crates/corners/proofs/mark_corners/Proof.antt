@@ -1,17 +1,17 @@
--- `marks::mark_corners` meets its contract: the loop's invariant: the turning points among the cells passed are written, and k is their number. Assumes nothing.
+-- `corners::mark_corners` meets its contract: the loop's invariant: the turning points among the cells passed are written, and k is their number. Assumes nothing.
 use Prim.Native.Nat.{_-_, _*_, _%_, _≤_}
 use mathlib.Core.Path.{_≡_}
 use native.Mathlib.Omega.{arith}
 use denote.Ref.{now}
 use lib.ListN.{length}
 use borrow.Author.Needs.{needs}
-use Rattle.marks.specs.Listing.{Written}
-use Rattle.marks.specs.Marks.{cornerCell}
-use Rattle.marks.proofs.Selects.{select-grows}
-use Rattle.marks.proofs.Chunks.{chunk-ends, next-begins, first-begins}
-use Rattle.marks.proofs.Listed.{none-written, write-long, write-on, written-on}
-use Rattle.marks.proofs.mark_corners.Statement.{statement}
-use Rattle.marks.proofs.mark_corners.Tie as tie
+use Rattle.corners.specs.Listing.{Written}
+use Rattle.corners.specs.Corners.{cornerCell}
+use Rattle.corners.proofs.Selects.{select-grows}
+use Rattle.corners.proofs.Chunks.{chunk-ends, next-begins, first-begins}
+use Rattle.corners.proofs.Listed.{none-written, write-long, write-on, written-on}
+use Rattle.corners.proofs.mark_corners.Statement.{statement}
+use Rattle.corners.proofs.mark_corners.Tie as tie
 
 abbrev Inv-loop : tie.InvT-loop
 Inv-loop words w h corners₀ k₀ cell₀ corners k cell = (cell ≤ w * h) × (cell % w % 64 ≡ 0) × Written (cornerCell w h words) corners₀ cell corners k

@@ -1,9 +1,9 @@
--- `marks::span` meets its contract: 64 cells, or those to the row's end. Assumes nothing.
+-- `corners::span` meets its contract: 64 cells, or those to the row's end. Assumes nothing.
 use native.Mathlib.Omega.{arith}
 use borrow.Author.Needs.{needs}
 use Rattle.ground.proofs.Numbers.{column-in}
-use Rattle.marks.proofs.span.Statement.{statement}
-use Rattle.marks.proofs.span.Tie as tie
+use Rattle.corners.proofs.span.Statement.{statement}
+use Rattle.corners.proofs.span.Tie as tie
 
 rem-left : tie.Need-rem-left
 rem-left c = let x = column-in _ _ _ (c .pre .0) in omega arith

@@ -1,4 +1,4 @@
--- `marks::count_corners` meets its contract: the loop's invariant: `count` is the number of turning points among the cells passed. Assumes nothing.
+-- `corners::count_corners` meets its contract: the loop's invariant: `count` is the number of turning points among the cells passed. Assumes nothing.
 use Prim.Native.Nat.{_-_, _*_, _%_, _^_, _<_, _≤_}
 use mathlib.Core.Path.{_≡_, sym, ap}
 use native.Mathlib.Omega.{arith}
@@ -6,13 +6,13 @@ use denote.Ref.{now}
 use lib.Count.{ones, ones-le}
 use lib.ListN.{length}
 use borrow.Author.Needs.{needs}
-use Rattle.marks.specs.Lists.{select}
-use Rattle.marks.specs.Marks.{cornerCell}
-use Rattle.marks.proofs.Selects.{select-none, select-few}
-use Rattle.marks.proofs.Chunks.{chunk-ends, next-begins, first-begins}
-use Rattle.marks.proofs.Counts.{ones-counted}
-use Rattle.marks.proofs.count_corners.Statement.{statement}
-use Rattle.marks.proofs.count_corners.Tie as tie
+use Rattle.corners.specs.Lists.{select}
+use Rattle.corners.specs.Corners.{cornerCell}
+use Rattle.corners.proofs.Selects.{select-none, select-few}
+use Rattle.corners.proofs.Chunks.{chunk-ends, next-begins, first-begins}
+use Rattle.corners.proofs.Counts.{ones-counted}
+use Rattle.corners.proofs.count_corners.Statement.{statement}
+use Rattle.corners.proofs.count_corners.Tie as tie
 
 abbrev Inv-loop : tie.InvT-loop
 Inv-loop words w h count₀ cell₀ count cell = (cell ≤ w * h) × (cell % w % 64 ≡ 0) × (count ≡ length (select (cornerCell w h words) cell))

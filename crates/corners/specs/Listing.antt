@@ -4,7 +4,7 @@ use mathlib.Core.Bool.{Bool}
 use mathlib.Core.List.{List}
 use mathlib.Core.Path.{_≡_}
 use lib.ListN.{length, take}
-use Rattle.marks.specs.Lists.{written, select}
+use Rattle.corners.specs.Lists.{written, select}
 
 -- those below n, k in number, are written over the first entries of what was lent
 pub record Written (f : ℕ → Bool) (lent : List ℕ) (n : ℕ) (now : List ℕ) (k : ℕ) : Type 0 where

@@ -1,9 +1,9 @@
--- `marks::is_entry` meets its contract: the test of the index, then that of the entry. Assumes nothing.
+-- `corners::is_entry` meets its contract: the test of the index, then that of the entry. Assumes nothing.
 use native.Mathlib.Omega.{arith}
 use borrow.Author.Needs.{needs}
 use borrow.Author.Tests.{lt-ltb, le-ltb}
-use Rattle.marks.proofs.is_entry.Statement.{statement}
-use Rattle.marks.proofs.is_entry.Tie as tie
+use Rattle.corners.proofs.is_entry.Statement.{statement}
+use Rattle.corners.proofs.is_entry.Tie as tie
 
 cast-result : tie.Need-cast-result
 cast-result c = omega (arith, c .shared-slice-known .given (c .before .before .args .k))

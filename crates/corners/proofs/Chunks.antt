@@ -13,8 +13,8 @@ use Rattle.floor.specs.Words.{board, numberOf, placeOf}
 use Rattle.masks.specs.Masks.{bitSet, Mask, spot}
 use Rattle.floor.proofs.Tables.{not-so}
 use Rattle.ground.proofs.Walks.{place-eq}
-use Rattle.marks.specs.Marks.{cornerCell}
-use Rattle.marks.specs.Chunks.{Chunk, Span, LastSpan, RowBits, inRow, NextBit}
+use Rattle.corners.specs.Corners.{cornerCell}
+use Rattle.corners.specs.Chunks.{Chunk, Span, LastSpan, RowBits, inRow, NextBit}
 use Rattle.ground.proofs.Numbers.{number-of-cell, place-of-number, column-in, row-in, within}
 
 -- cells of one row end with the floor

@@ -1,10 +1,10 @@
--- `marks::corner_bits` meets its contract: the mask's places are those of the cells, and past the row's end all is blocked. Assumes nothing.
+-- `corners::corner_bits` meets its contract: the mask's places are those of the cells, and past the row's end all is blocked. Assumes nothing.
 use native.Mathlib.Omega.{arith}
 use borrow.Author.Needs.{needs}
 use Rattle.ground.proofs.Numbers.{column-in, row-in}
-use Rattle.marks.proofs.Chunks.{corner-row}
-use Rattle.marks.proofs.corner_bits.Statement.{statement}
-use Rattle.marks.proofs.corner_bits.Tie as tie
+use Rattle.corners.proofs.Chunks.{corner-row}
+use Rattle.corners.proofs.corner_bits.Statement.{statement}
+use Rattle.corners.proofs.corner_bits.Tie as tie
 
 add-corner-mask : tie.Need-add-corner-mask
 add-corner-mask c =

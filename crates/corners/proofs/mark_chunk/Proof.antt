@@ -1,4 +1,4 @@
--- `marks::mark_chunk` meets its contract: the loop's invariant: the turning points among the cells passed are written, and `to` is their number. Assumes nothing.
+-- `corners::mark_chunk` meets its contract: the loop's invariant: the turning points among the cells passed are written, and `to` is their number. Assumes nothing.
 use Prim.Native.Nat.{ℕ, _+_, _-_, _*_, _≤_, _<_}
 use mathlib.Core.Bool.{true}
 use mathlib.Core.Path.{_≡_, sym, subst}
@@ -7,13 +7,13 @@ use native.Mathlib.Omega.{arith}
 use denote.Ref.{now}
 use lib.ListN.{set}
 use borrow.Author.Needs.{needs}
-use Rattle.marks.specs.Listing.{Written}
-use Rattle.marks.specs.Marks.{cornerCell}
-use Rattle.marks.proofs.Selects.{select-few, select-grows}
-use Rattle.marks.proofs.Chunks.{UpTo, chunk-ends, none-between, next-told}
-use Rattle.marks.proofs.Listed.{write-long, write-room, write-taken, write-none}
-use Rattle.marks.proofs.mark_chunk.Statement.{statement}
-use Rattle.marks.proofs.mark_chunk.Tie as tie
+use Rattle.corners.specs.Listing.{Written}
+use Rattle.corners.specs.Corners.{cornerCell}
+use Rattle.corners.proofs.Selects.{select-few, select-grows}
+use Rattle.corners.proofs.Chunks.{UpTo, chunk-ends, none-between, next-told}
+use Rattle.corners.proofs.Listed.{write-long, write-room, write-taken, write-none}
+use Rattle.corners.proofs.mark_chunk.Statement.{statement}
+use Rattle.corners.proofs.mark_chunk.Tie as tie
 
 abbrev Inv-loop : tie.InvT-loop
 Inv-loop words w h corners₀ cell count k mask to₀ i₀ corners to i = UpTo count mask (λ s. Written (cornerCell w h words) corners₀ (cell + s) corners to) i

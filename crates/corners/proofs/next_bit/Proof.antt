@@ -1,11 +1,11 @@
--- `marks::next_bit` meets its contract: the zeros below the lowest 1 of what is left of the mask. Assumes nothing.
+-- `corners::next_bit` meets its contract: the zeros below the lowest 1 of what is left of the mask. Assumes nothing.
 use Prim.Native.Nat.{_/_, _^_}
 use native.Mathlib.Omega.{arith}
 use lib.Count.{trailing-le}
 use borrow.Author.Needs.{needs}
-use Rattle.marks.proofs.Counts.{next-found}
-use Rattle.marks.proofs.next_bit.Statement.{statement}
-use Rattle.marks.proofs.next_bit.Tie as tie
+use Rattle.corners.proofs.Counts.{next-found}
+use Rattle.corners.proofs.next_bit.Statement.{statement}
+use Rattle.corners.proofs.next_bit.Tie as tie
 
 cast-result : tie.Need-cast-result
 cast-result c = let a = c .before .args in omega (arith, trailing-le 64 (a .mask / 2 ^ a .i))
