@@ -12,7 +12,7 @@ ghost use Rattle.ground.specs.Kind.{octile};
 ghost use Rattle.corners.specs.Lists.{written};
 ghost use Rattle.places.specs.Columns.{Next, Only};
 ghost use Rattle.places.specs.Places.{Indexed, cellAt, TwoCells};
-ghost use Rattle.search.specs.Tree.{Room};
+ghost use Rattle.offers.specs.Tree.{Room};
 ghost use Rattle.line.specs.Cells.{steps, legs, Cell, LineWritten};
 ghost use Rattle.chain.specs.Chain.{Journey, Walked, LeadsTo, Lesser, Reached, Prior, cellsAt, Linked, Paved};
 use lengths::Length;

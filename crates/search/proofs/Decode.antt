@@ -20,10 +20,9 @@ use Rattle.places.specs.Columns.{columnOf, Label, Settled}
 use Rattle.places.specs.Places.{cellAt}
 use Rattle.places.specs.Chart.{chart, cell}
 use Rattle.places.proofs.Columns.{column-length}
-use Rattle.search.specs.Tree.{waitsAt, Right}
-use Rattle.search.specs.Search.{read, labels, labelsOf}
-use Rattle.search.specs.Offers.{First}
-use Rattle.search.proofs.Trees.{leaf-waits, leaf-nobody}
+use Rattle.offers.specs.Tree.{waitsAt, Right}
+use Rattle.offers.proofs.Trees.{leaf-waits, leaf-nobody}
+use Rattle.search.specs.Search.{read, labels, labelsOf, First}
 
 -- An entry above 0 is a label.
 pub read-some : (x : ℕ) → 0 < x → read x ≡ some (x - 1)

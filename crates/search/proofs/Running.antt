@@ -26,9 +26,9 @@ use Rattle.places.specs.Chart.{Chart, chart, Fair, net, order, Ready}
 use Rattle.places.proofs.Columns.{column-length, left-same, left-trans}
 use Rattle.places.proofs.Links.{consistent, distinct}
 use Rattle.places.proofs.Charts.{chart-same, ready-kept}
-use Rattle.search.specs.Tree.{Right}
+use Rattle.offers.specs.Tree.{Right}
+use Rattle.offers.specs.Offers.{Offer}
 use Rattle.search.specs.Search.{labelsOf, Foremost, Near, Settling, Blank, Bounded, Outcome, Run}
-use Rattle.search.specs.Offers.{Offer}
 use Rattle.search.proofs.Decode.{some-read}
 
 -- Where as many of the numbers below n have a property as there are, each has it.

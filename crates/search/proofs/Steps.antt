@@ -1,104 +1,36 @@
--- From offers to a step.
+-- From offers to a step, and the tree at the beginning.
 -- Assumes nothing.
 use mathlib.Core.Path.{_≡_, refl, sym, _∙_, ap}
-use mathlib.Core.Logic.{_⊎_, inl, inr, ⊎-elim}
+use mathlib.Core.Logic.{inl, inr, ⊎-elim}
 use mathlib.Core.List.{List}
-use mathlib.Core.Option.{some}
-use Prim.Native.Nat.{ℕ, _+_, _-_, _≤_, _<_}
+use Prim.Native.Nat.{ℕ, _+_, _*_, _-_, _≤_, _<_}
 use native.Mathlib.Omega.{arith}
-use native.Mathlib.Nat.{le-refl, le-trans}
-use native.Mathlib.Decide.{ℕ-discrete, decLt}
-use borrow.Author.Tests.{lt-ltb, le-ltb}
 use lib.ListN.{length, getD, set}
 use lib.Seq.{getD-set-same, getD-set-other}
 use Rattle.settling.specs.Labels.{Step}
-use Rattle.places.specs.Chart.{Chart, linkAt, linkCount, net, order}
-use Rattle.search.specs.Search.{read, labels, Foremost}
-use Rattle.search.specs.Offers.{lowered, Offered}
+use Rattle.tree.specs.Keys.{nobody, Changed}
+use Rattle.places.specs.declared.Trip.{Trip}
+use Rattle.places.specs.Columns.{columnOf, Label, Settled, Put}
+use Rattle.places.specs.Places.{cellAt}
+use Rattle.places.specs.Chart.{Chart, chart, linkCount, net, order, Ready}
+use Rattle.places.proofs.Columns.{column-length, only-left, left-same, left-trans}
+use Rattle.places.proofs.Charts.{chart-same}
+use Rattle.offers.specs.Tree.{Small, Right}
+use Rattle.offers.specs.Offers.{limit, Offered, Followed}
+use Rattle.offers.proofs.Trees.{leaf-nobody, waits-blank, right-settled}
+use Rattle.search.specs.Search.{read, labels, labelsOf, Foremost, Near, First, Marked, Settling, Blank}
 use Rattle.search.proofs.Decode.{read-some, some-read}
 
--- What an offer makes of an entry: there is one, it is at most the offer and at most what it was, and is one of the two.
-pub record Lowered (old new r : ℕ) : Type 0 where
-  pub some : 0 < r
-  pub offer : r ≤ new
-  pub kept : 0 < old → r ≤ old
-  pub one : (r ≡ old) ⊎ (r ≡ new)
-
--- The lower of two entries is such a one.
-pub lowered-is : (old new : ℕ) → 0 < new → Lowered old new (lowered old new)
-lowered-is old new pos = go (decLt 0 old) (decLt new old)
-  where
-    go : Dec (0 < old) → Dec (new < old) → Lowered old new (lowered old new)
-    go (yes l) (yes m) = rw (lt-ltb 0 old l) (record { some = omega arith; offer = omega arith; kept = λ h. omega arith; one = inr (omega arith) })
-    go (yes l) (no m) = rw (lt-ltb 0 old l) (record { some = omega arith; offer = omega arith; kept = λ h. omega arith; one = inl (omega arith) })
-    go (no l) m = rw (le-ltb 0 old (omega arith)) (record { some = pos; offer = le-refl new; kept = λ h. absurd (omega arith); one = inr refl })
-
-module _ (𝓒 : Chart) (u d : ℕ) (D : List ℕ) where
-  -- Nothing has been offered.
-  pub offered-none : Offered 𝓒 u d 0 D D
-  offered-none = record { from = λ v. inl refl; kept = λ v h. (h, le-refl _); offered = λ j v h. absurd (omega arith) }
-
-  module _ (D′ : List ℕ) (k : ℕ) (o : Offered 𝓒 u d k D D′) where
-    -- A link that leads nowhere offers nothing.
-    pub offered-skip : linkAt 𝓒 u k ≡ 0 → Offered 𝓒 u d (k + 1) D D′
-    offered-skip z = record {
-      from = λ v. ⊎-elim inl (λ t. inr (t .0, omega arith, t .2, t .3)) (o .from v);
-      kept = o .kept;
-      offered = λ j v h q. go j v h q (ℕ-discrete j k);
-    }
-      where
-        go : (j v : ℕ) → j < k + 1 → linkAt 𝓒 u j ≡ v + 1 → Dec (j ≡ k) → (0 < getD D′ v 0) × (getD D′ v 0 ≤ d + net 𝓒 .weight u v)
-        go j v h q (yes e) = let r : linkAt 𝓒 u k ≡ v + 1 = rw e at q in absurd (omega arith)
-        go j v h q (no n) = o .offered j v (omega arith) q
-
-    -- A link that leads to x offers x the way by u.
-    module _ (x : ℕ) (leads : linkAt 𝓒 u k ≡ x + 1) (inside : x < length D′) (pos : 0 < d) where
-      -- the entries after the offer
-      abbrev D″ : List ℕ
-      D″ = set D′ x (lowered (getD D′ x 0) (d + net 𝓒 .weight u x))
-
-      -- At x the entry is lowered.
-      here : Lowered (getD D′ x 0) (d + net 𝓒 .weight u x) (getD D″ x 0)
-      here = rw (getD-set-same D′ x (lowered (getD D′ x 0) (d + net 𝓒 .weight u x)) 0 inside) (lowered-is (getD D′ x 0) (d + net 𝓒 .weight u x) (omega arith))
-
-      -- Elsewhere it stays.
-      elsewhere : (v : ℕ) → (v ≡ x → ⊥) → getD D″ v 0 ≡ getD D′ v 0
-      elsewhere v n = getD-set-other D′ x v _ 0 n
-
-      -- No entry is lost or grows.
-      less : (v : ℕ) → 0 < getD D′ v 0 → (0 < getD D″ v 0) × (getD D″ v 0 ≤ getD D′ v 0)
-      less v h = go (ℕ-discrete v x)
-        where
-          go : Dec (v ≡ x) → (0 < getD D″ v 0) × (getD D″ v 0 ≤ getD D′ v 0)
-          go (yes e) = rw e (here .some, here .kept (rw e at h))
-          go (no n) = rw (elsewhere v n) (h, le-refl _)
-
-      -- An entry stays or is the offer.
-      changed : (v : ℕ) → (getD D″ v 0 ≡ getD D′ v 0) ⊎ ((linkAt 𝓒 u k ≡ v + 1) × (getD D″ v 0 ≡ d + net 𝓒 .weight u v))
-      changed v = go (ℕ-discrete v x)
-        where
-          go : Dec (v ≡ x) → (getD D″ v 0 ≡ getD D′ v 0) ⊎ ((linkAt 𝓒 u k ≡ v + 1) × (getD D″ v 0 ≡ d + net 𝓒 .weight u v))
-          go (yes e) = rw e (⊎-elim inl (λ q. inr (leads, q)) (here .one))
-          go (no n) = inl (elsewhere v n)
-
-      -- One link more has been followed.
-      pub offered-more : Offered 𝓒 u d (k + 1) D (set D′ x (lowered (getD D′ x 0) (d + net 𝓒 .weight u x)))
-      offered-more = record {
-        from = λ v.
-            ⊎-elim
-            (λ s. ⊎-elim (λ t. inl (s ∙ t)) (λ t. inr (t .0, omega arith, t .2, s ∙ t .3)) (o .from v))
-            (λ s. inr (k, omega arith, s .0, s .1))
-            (changed v);
-        kept = λ v h. let a = o .kept v h in let b = less v (a .0) in (b .0, le-trans (b .1) (a .1));
-        offered = λ j v h q. go j v h q (ℕ-discrete j k);
-      }
-        where
-          go : (j v : ℕ) → j < k + 1 → linkAt 𝓒 u j ≡ v + 1 → Dec (j ≡ k) → (0 < getD D″ v 0) × (getD D″ v 0 ≤ d + net 𝓒 .weight u v)
-          go j v h q (yes e) =
-              let r : linkAt 𝓒 u k ≡ v + 1 = rw e at q in
-              let z : v ≡ x = omega arith in
-              rw z (here .some, here .offer)
-          go j v h q (no n) = let a = o .offered j v (omega arith) q in let b = less v (a .0) in (b .0, le-trans (b .1) (a .1))
+-- A place that is marked, with the tree put right.
+pub marked-of :
+    {t : Trip} {W T W′ T′ : List ℕ} {u : ℕ} → 6 * (t .k + 2) ≤ length W → u < t .k + 2 → Put (t .k + 2) W Settled u 1 W′ → Changed (t .k + 2) T u nobody T′ → Marked t W T u W′ T′
+marked-of room h s c = record {
+  label = s .only .others Label (λ q. omega arith);
+  settled = s .here;
+  left = only-left (omega arith) (s .only);
+  right = λ C right. right-settled right room h s c;
+  tree = c .sized;
+}
 
 module _ (𝓒 : Chart) (D F D′ F′ : List ℕ) (u : ℕ) where
   -- Where the foremost place is marked and all its links are followed, a step has been made.
@@ -119,3 +51,61 @@ module _ (𝓒 : Chart) (D F D′ F′ : List ℕ) (u : ℕ) where
         (getD D′ v 0 - 1, read-some (getD D′ v 0) (k .0), omega arith);
     offered = λ v l. let k = off .offered (l .0) v (l .1) (l .2) in (getD D′ v 0 - 1, read-some (getD D′ v 0) (k .0), omega arith);
   }
+
+-- ---- a place is settled
+-- Nobody waits.
+pub settling-none : {C S E : List ℕ} {t : Trip} {W T : List ℕ} {r : ℕ} → First (chart C S E t W) W r → r ≡ 0 → Right C t W T → Settling C S E t W T 0 W T
+settling-none f z right = record {
+  inside = omega arith;
+  none = λ q. (refl, f .none z);
+  some = λ h. absurd (omega arith);
+  left = left-same _ _;
+  right = right;
+  tree = refl;
+}
+
+module _ {C S E : List ℕ} {t : Trip} {W : List ℕ} {r : ℕ} (f : First (chart C S E t W) W r) (pos : 0 < r) where
+  -- The foremost place has an entry.
+  pub first-entry : 0 < getD (columnOf (t .k + 2) W Label) (r - 1) 0
+  first-entry = omega (arith, some-read (getD (columnOf (t .k + 2) W Label) (r - 1) 0) _ (f .some pos .waits .1))
+
+  -- It leaves room for one link more.
+  pub first-near : Near (chart C S E t W) (labelsOf (t .k + 2) W) → getD (columnOf (t .k + 2) W Label) (r - 1) 0 ≤ limit + 1
+  first-near near = omega (arith, near .near (r - 1) _ (f .some pos))
+
+  -- It is marked, and all its links are followed: a step.
+  pub settling-some :
+      Ready C S E t W → {T W′ T′ W″ T″ : List ℕ} → Marked t W T (r - 1) W′ T′ →
+      Followed C S E t W′ T′ (r - 1) (getD (columnOf (t .k + 2) W Label) (r - 1) 0) (linkCount (chart C S E t W′) (r - 1)) W″ T″ →
+      Settling C S E t W T r W″ T″
+  settling-some ready {T} {W′} {T′} {W″} m l = record {
+    inside = f .inside;
+    none = λ z. absurd (omega arith);
+    some = λ h. (_, step-of (chart C S E t W) (columnOf (t .k + 2) W Label) (columnOf (t .k + 2) W Settled) (columnOf (t .k + 2) W″ Label) (columnOf (t .k + 2) W″ Settled) (r - 1) (f .some pos) first-entry offered (l .settled ∙ m .settled) inside);
+    left = left-trans (m .left) (l .left);
+    right = l .right;
+    tree = l .tree ∙ m .tree;
+  }
+    where
+      offered :
+          Offered (chart C S E t W) (r - 1) (getD (columnOf (t .k + 2) W Label) (r - 1) 0) (linkCount (chart C S E t W) (r - 1)) (columnOf (t .k + 2) W Label) (columnOf (t .k + 2) W″ Label)
+      offered = rw (chart-same C S E t (m .left), m .label) at (l .offered)
+
+      inside : r - 1 < length (columnOf (t .k + 2) W Settled)
+      inside = rw (column-length (t .k + 2) W Settled (omega arith) (ready .room)) (omega (arith, f .inside))
+
+-- ---- the beginning
+-- A tree that holds nobody is right where nothing is labelled.
+pub blank-right :
+    {C : List ℕ} {t : Trip} {W T : List ℕ} → Small C t → t .k + 2 + (t .k + 2) ≤ length T → ((i : ℕ) → i < length T → getD T i 0 ≡ nobody) → Blank (t .k + 2) W →
+    Right C t W T
+blank-right {C} {t} {W} {T} small room bare b = record {
+  small = small;
+  keyed = record {
+    room = room;
+    least = λ i pos h. omega (arith, bare i (omega arith), bare (2 * i) (omega arith), bare (2 * i + 1) (omega arith));
+  };
+  leaf = λ p h.
+      bare (t .k + 2 + p) (omega arith) ∙
+      sym (leaf-nobody (columnOf (t .k + 2) W Label) (columnOf (t .k + 2) W Settled) (cellAt C t) p (waits-blank (columnOf (t .k + 2) W Label) (columnOf (t .k + 2) W Settled) (cellAt C t) p (omega (arith, b .settled p)) (omega (arith, b .label p))));
+}

@@ -1,3 +1,1 @@
-pub mod Tree
 pub mod Search
-pub mod Offers

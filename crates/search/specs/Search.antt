@@ -7,7 +7,7 @@ use mathlib.Core.List.{List}
 use mathlib.Core.Option.{Option, some, none}
 use Prim.Native.Nat.{ℕ, _+_, _-_, _≤_, _<_}
 use lib.Dec.{ltb}
-use lib.ListN.{length, getD}
+use lib.ListN.{length, getD, set}
 use Rattle.settling.specs.Chains.{Chain, Reachable, Shortest, wholes}
 use Rattle.settling.specs.Order.{NoLater}
 use Rattle.settling.specs.Labels.{Labels, SettledAt, WaitingAt, Step, Sound}
@@ -16,7 +16,8 @@ use Rattle.settling.specs.Effort.{InReach}
 use Rattle.places.specs.declared.Trip.{Trip}
 use Rattle.places.specs.Columns.{columnOf, Label, Settled, Left}
 use Rattle.places.specs.Chart.{Chart, chart, net, order}
-use Rattle.search.specs.Tree.{Right}
+use Rattle.offers.specs.Tree.{Right}
+use Rattle.offers.specs.Offers.{limit}
 
 -- A label is stored as one more than it is, and 0 stands for none.
 abbrev pub read : ℕ → Option ℕ
@@ -30,10 +31,6 @@ labels D F = record { label = λ v. read (getD D v 0); settled = λ v. ltb 0 (ge
 abbrev pub labelsOf : ℕ → List ℕ → Labels wholes
 labelsOf n W = labels (columnOf n W Label) (columnOf n W Settled)
 
--- The weight of 16,383 diagonal steps: no shortest walk on a floor has more steps.
-abbrev pub limit : ℕ
-limit = 1871643069
-
 -- u waits at d, and none that waits ranks before it.
 pub record Foremost (𝓒 : Chart) (𝓢 : Labels wholes) (u d : ℕ) : Type 0 where
   pub waits : WaitingAt 𝓢 u d
@@ -42,6 +39,20 @@ pub record Foremost (𝓒 : Chart) (𝓢 : Labels wholes) (u d : ℕ) : Type 0 w
 -- The foremost place's label leaves room for one link more.
 pub record Near (𝓒 : Chart) (𝓢 : Labels wholes) : Type 0 where
   pub near : (u d : ℕ) → Foremost 𝓒 𝓢 u d → d ≤ limit
+
+-- r is one more than the place that waits foremost, or 0 where none waits.
+pub record First (𝓒 : Chart) (W : List ℕ) (r : ℕ) : Type 0 where
+  pub inside : r ≤ 𝓒 .trip .k + 2
+  pub none : r ≡ 0 → (v e : ℕ) → WaitingAt (labelsOf (𝓒 .trip .k + 2) W) v e → ⊥
+  pub some : 0 < r → Foremost 𝓒 (labelsOf (𝓒 .trip .k + 2) W) (r - 1) (getD (columnOf (𝓒 .trip .k + 2) W Label) (r - 1) 0 - 1)
+
+-- Place u is settled, and the tree is right again, whatever the corners that it was right for.
+pub record Marked (t : Trip) (W T : List ℕ) (u : ℕ) (W′ T′ : List ℕ) : Type 0 where
+  pub label : columnOf (t .k + 2) W′ Label ≡ columnOf (t .k + 2) W Label
+  pub settled : columnOf (t .k + 2) W′ Settled ≡ set (columnOf (t .k + 2) W Settled) u 1
+  pub left : Left (t .k + 2) W W′
+  pub right : (C : List ℕ) → Right C t W T → Right C t W′ T′
+  pub tree : length T′ ≡ length T
 
 -- One place has been settled, and r is one more than it; or none waits, and r is 0.
 pub record Settling (C S E : List ℕ) (t : Trip) (W T : List ℕ) (r : ℕ) (W′ T′ : List ℕ) : Type 0 where

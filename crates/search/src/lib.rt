@@ -10,144 +10,11 @@ ghost use Rattle.settling.specs.Labels.{First as Begun};
 ghost use Rattle.settling.specs.Counts.{Counts, below};
 ghost use Rattle.tree.specs.Keys.{nobody, Keyed};
 ghost use Rattle.places.specs.Places.{Indexed};
-ghost use Rattle.places.specs.Chart.{chart, linkCount, net, Ready};
-ghost use Rattle.places.specs.Flagging.{firstTold, FlagsOf};
-ghost use Rattle.search.specs.Tree.{Room, Small, Right};
-ghost use Rattle.search.specs.Search.{labelsOf, limit, Near, Settling, Blank, Bounded, Run};
-ghost use Rattle.search.specs.Offers.{lowered as loweredOf, Offer, Follow, Followed, Marked, First};
-use places::Flags;
+ghost use Rattle.places.specs.Chart.{chart, net, Ready};
+ghost use Rattle.offers.specs.Tree.{Room, Small, Right};
+ghost use Rattle.offers.specs.Offers.{Offer};
+ghost use Rattle.search.specs.Search.{labelsOf, Near, First, Marked, Settling, Blank, Bounded, Run};
 use places::Trip;
-
-// The entry after an offer: the less of the two, where there was one.
-fn lowered(old: u32, new: u32) -> u32
-    ensures { λ r. ⌜ r ≡ loweredOf old new ⌝ }
-{
-    if old == 0 {
-        return new;
-    }
-    if new < old {
-        return new;
-    }
-    old
-}
-
-// Place v may be reached at a length that is one less than `new`. Where that is news, and v is not settled, its key
-// climbs in the tree.
-fn offer(corners: &[u16], t: Trip, work: &mut [u32], tree: &mut [u64], v: usize, new: u32)
-    requires room { ⌜ Room (now corners) t (now work) ⌝ }
-    requires right { ⌜ Right (now corners) t (now work) (now tree) ⌝ }
-    requires inside { ⌜ v < t .k + 2 ⌝ }
-    requires some { ⌜ 0 < new ⌝ }
-    ensures { λ r. ⌜ Offer (now (corners .entry)) t (now (work .entry)) (now (tree .entry)) v new (now (work .exit)) (now (tree .exit)) ⌝ }
-{
-    let n = t.k + 2;
-    let old = places::get(work, n, places::LABEL, v);
-    let best = lowered(old, new);
-    if best != old {
-        places::put(work, n, places::LABEL, v, best);
-        let settled = places::get(work, n, places::SETTLED, v);
-        if settled == 0 {
-            let cell = places::cell_of(corners, t, v);
-            let key = tree::key(best, cell, v);
-            tree::climb(tree, n, v, key);
-        }
-    }
-}
-
-// Offers the place that flag i of u tells of, if it is set, the way by u, whose entry is d.
-fn follow_flag(
-    corners: &[u16],
-    starts: &[u16],
-    neighbours: &[u16],
-    t: Trip,
-    work: &mut [u32],
-    tree: &mut [u64],
-    f: Flags,
-    u: usize,
-    d: u32,
-    i: usize,
-)
-    requires ready { ⌜ Ready (now corners) (now starts) (now neighbours) t (now work) ⌝ }
-    requires right { ⌜ Right (now corners) t (now work) (now tree) ⌝ }
-    requires inside { ⌜ u < t .k + 2 ⌝ }
-    requires flags { ⌜ FlagsOf t u f ⌝ }
-    requires there { ⌜ i < f .count ⌝ }
-    requires short { ⌜ (0 < d) × (d ≤ limit + 1) ⌝ }
-    ensures { λ r. ⌜ Follow (now (corners .entry)) (now (starts .entry)) (now (neighbours .entry)) t (now (work .entry)) (now (tree .entry)) u d (firstTold (now (starts .entry)) (t .k) u + i) (now (work .exit)) (now (tree .exit)) ⌝ }
-{
-    let at = f.at + f.apart * i;
-    let flag = work[at];
-    if 0 < flag {
-        let v = f.to + i;
-        let a = places::cell_of(corners, t, u);
-        let b = places::cell_of(corners, t, v);
-        let far = places::leg(t.w, a, b);
-        offer(corners, t, work, tree, v, d + far);
-    }
-}
-
-// Offers each neighbour of u the way by u, whose entry is d; only a corner has any.
-fn follow_arcs(
-    corners: &[u16],
-    starts: &[u16],
-    neighbours: &[u16],
-    t: Trip,
-    table: &[u16],
-    work: &mut [u32],
-    tree: &mut [u64],
-    u: usize,
-    d: u32,
-)
-    requires ready { ⌜ Ready (now corners) (now starts) (now neighbours) t (now work) ⌝ }
-    requires right { ⌜ Right (now corners) t (now work) (now tree) ⌝ }
-    requires indexed { ⌜ Indexed (now corners) (now table) ⌝ }
-    requires inside { ⌜ u < t .k + 2 ⌝ }
-    requires short { ⌜ (0 < d) × (d ≤ limit + 1) ⌝ }
-    ensures { λ r. ⌜ Followed (now (corners .entry)) (now (starts .entry)) (now (neighbours .entry)) t (now (work .entry)) (now (tree .entry)) u d (firstTold (now (starts .entry)) (t .k) u) (now (work .exit)) (now (tree .exit)) ⌝ }
-{
-    if t.k <= u {
-        return;
-    }
-    let a = places::cell_of(corners, t, u);
-    let first = places::wide(starts[u]);
-    let count = places::arc_count(starts, u);
-    let mut j: usize = 0;
-    while j < count {
-        let b = places::wide(neighbours[first + j]);
-        let v = places::wide(table[b]);
-        let far = places::leg(t.w, a, b);
-        offer(corners, t, work, tree, v, d + far);
-        j += 1;
-    }
-}
-
-// Follows each link of u: its neighbours by the table, then those that flags tell of.
-fn follow_all(
-    corners: &[u16],
-    starts: &[u16],
-    neighbours: &[u16],
-    t: Trip,
-    table: &[u16],
-    work: &mut [u32],
-    tree: &mut [u64],
-    u: usize,
-    d: u32,
-)
-    requires ready { ⌜ Ready (now corners) (now starts) (now neighbours) t (now work) ⌝ }
-    requires right { ⌜ Right (now corners) t (now work) (now tree) ⌝ }
-    requires indexed { ⌜ Indexed (now corners) (now table) ⌝ }
-    requires inside { ⌜ u < t .k + 2 ⌝ }
-    requires short { ⌜ (0 < d) × (d ≤ limit + 1) ⌝ }
-    ensures { λ r. ⌜ Followed (now (corners .entry)) (now (starts .entry)) (now (neighbours .entry)) t (now (work .entry)) (now (tree .entry)) u d (linkCount (chart (now (corners .entry)) (now (starts .entry)) (now (neighbours .entry)) t (now (work .entry))) u) (now (work .exit)) (now (tree .exit)) ⌝ }
-{
-    follow_arcs(corners, starts, neighbours, t, table, work, tree, u, d);
-    let f = places::flags_of(t, u);
-    let mut i: usize = 0;
-    while i < f.count {
-        follow_flag(corners, starts, neighbours, t, work, tree, f, u, d, i);
-        i += 1;
-    }
-}
 
 // One more than the place that waits foremost, or 0 where none waits: its key is at the top of the tree, whatever the
 // chart and the work space that the tree is right for.
@@ -196,7 +63,7 @@ fn settle(
     let u = first - 1;
     let d = places::get(work, t.k + 2, places::LABEL, u);
     mark(t, work, tree, u);
-    follow_all(corners, starts, neighbours, t, table, work, tree, u, d);
+    offers::follow_all(corners, starts, neighbours, t, table, work, tree, u, d);
     first
 }
 
@@ -209,7 +76,7 @@ fn begin(corners: &[u16], t: Trip, work: &mut [u32], tree: &mut [u64])
     requires from { ⌜ t .from < t .k + 2 ⌝ }
     ensures { λ r. ⌜ Offer (now (corners .entry)) t (now (work .entry)) (now (tree .entry)) (t .from) 1 (now (work .exit)) (now (tree .exit)) ⌝ }
 {
-    offer(corners, t, work, tree, t.from, 1);
+    offers::offer(corners, t, work, tree, t.from, 1);
 }
 
 // Settles places from the start on, until the goal is settled, none waits or `budget` of them are settled.

@@ -5,7 +5,7 @@ use mathlib.Core.Path.{_≡_, sym, subst}
 use native.Mathlib.Omega.{arith}
 use Rattle.places.specs.Chart.{chart, linkCount}
 use Rattle.places.proofs.Links.{two-cells, link-fits}
-use Rattle.search.proofs.Follows.{ready-room}
+use Rattle.offers.proofs.Follows.{ready-room}
 use Rattle.chain.specs.Chain.{LeadsTo, Lesser}
 use Rattle.chain.proofs.Backwards.{Best, best-none, best-skip, best-more, reached-inside, best-some, best-prior}
 use Rattle.chain.proofs.place_before.Statement.{statement}

@@ -1,7 +1,7 @@
 -- `search::begin` meets its contract. Assumes nothing.
 use native.Mathlib.Omega.{arith}
 use borrow.Author.Needs.{needs}
-use Rattle.search.proofs.Follows.{blank-right}
+use Rattle.search.proofs.Steps.{blank-right}
 use Rattle.search.proofs.begin.Statement.{statement}
 use Rattle.search.proofs.begin.Tie as tie
 

@@ -1,7 +1,7 @@
 -- `search::mark` meets its contract. Assumes nothing.
 use native.Mathlib.Omega.{arith}
 use borrow.Author.Needs.{needs}
-use Rattle.search.proofs.Offering.{marked-of}
+use Rattle.search.proofs.Steps.{marked-of}
 use Rattle.search.proofs.mark.Statement.{statement}
 use Rattle.search.proofs.mark.Tie as tie
 

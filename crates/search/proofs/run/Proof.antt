@@ -3,7 +3,7 @@ use native.Mathlib.Omega.{arith}
 use lib.ListN.{getD-replicate}
 use Rattle.tree.specs.Keys.{nobody}
 use Rattle.places.proofs.Charts.{ready-kept}
-use Rattle.search.proofs.Follows.{ready-room}
+use Rattle.offers.proofs.Follows.{ready-room}
 use Rattle.search.proofs.Running.{begun-first, bounded-begun, run-begun}
 use borrow.Author.Needs.{needs}
 use Rattle.search.proofs.run.Statement.{statement}

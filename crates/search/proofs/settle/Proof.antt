@@ -2,7 +2,7 @@
 use native.Mathlib.Omega.{arith}
 use borrow.Author.Needs.{needs}
 use Rattle.places.proofs.Charts.{ready-kept}
-use Rattle.search.proofs.Follows.{first-entry, first-near, settling-none, settling-some}
+use Rattle.search.proofs.Steps.{first-entry, first-near, settling-none, settling-some}
 use Rattle.search.proofs.settle.Statement.{statement}
 use Rattle.search.proofs.settle.Tie as tie
 

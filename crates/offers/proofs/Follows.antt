@@ -1,16 +1,15 @@
--- Links followed one by one, those to neighbours by the table, and a place settled.
+-- Links followed one by one, those to neighbours by the table.
 -- Assumes nothing.
 use mathlib.Core.Path.{_≡_, refl, sym, _∙_, ap}
 use mathlib.Core.List.{List}
-use Prim.Native.Nat.{ℕ, zero, suc, _+_, _*_, _-_, _≤_, _<_}
+use Prim.Native.Nat.{ℕ, zero, suc, _+_, _*_, _-_, _<_}
 use native.Mathlib.Numerals.{add-one}
 use native.Mathlib.Omega.{arith}
 use borrow.Author.Tests.{lt-ltb, le-ltb}
 use lib.ListN.{length, getD}
-use Rattle.tree.specs.Keys.{nobody}
 use Rattle.places.specs.declared.Trip.{Trip}
 use Rattle.places.specs.declared.Flags.{Flags}
-use Rattle.places.specs.Columns.{columnOf, Label, Settled, Left}
+use Rattle.places.specs.Columns.{columnOf, Label, Left}
 use Rattle.places.specs.Places.{indexOf, Indexed, cellAt, apart}
 use Rattle.places.specs.Chart.{chart, arcsOf, linkAt, linkCount, Ready}
 use Rattle.places.specs.Flagging.{firstTold, FlagsOf}
@@ -18,12 +17,9 @@ use Rattle.places.proofs.Told.{told-there, tells}
 use Rattle.places.proofs.Columns.{column-length, left-same, left-trans}
 use Rattle.places.proofs.Links.{link-fits}
 use Rattle.places.proofs.Charts.{chart-same, ready-kept, arcs-most, is-cell, arc-index, arc-link}
-use Rattle.search.specs.Tree.{Small, Room, Right}
-use Rattle.search.specs.Search.{limit, labelsOf, Near, Settling, Blank}
-use Rattle.search.specs.Offers.{Offer, Offered, Follow, Followed, Marked, First}
-use Rattle.search.proofs.Decode.{some-read}
-use Rattle.search.proofs.Trees.{leaf-nobody, waits-blank}
-use Rattle.search.proofs.Steps.{offered-none, offered-skip, offered-more, step-of}
+use Rattle.offers.specs.Tree.{Room, Right}
+use Rattle.offers.specs.Offers.{Offer, Offered, Follow, Followed}
+use Rattle.offers.proofs.Entries.{offered-none, offered-skip, offered-more}
 
 -- What is ready has its corners, and room for the columns.
 pub ready-room : {C S E : List ℕ} {t : Trip} {W : List ℕ} → Ready C S E t W → Room C t W
@@ -154,61 +150,3 @@ module _ {C S E : List ℕ} {t : Trip} {W : List ℕ} {u : ℕ} {f : Flags} (i :
   flag-passed z =
       let to = sym (rw (le-ltb 0 flag (omega arith)) at (tells i ready inside is there .link)) in
       follow-none u (firstTold S (t .k) u + i) ready (told-there i ready inside is there) to refl
-
--- ---- a place is settled
--- Nobody waits.
-pub settling-none : {C S E : List ℕ} {t : Trip} {W T : List ℕ} {r : ℕ} → First (chart C S E t W) W r → r ≡ 0 → Right C t W T → Settling C S E t W T 0 W T
-settling-none f z right = record {
-  inside = omega arith;
-  none = λ q. (refl, f .none z);
-  some = λ h. absurd (omega arith);
-  left = left-same _ _;
-  right = right;
-  tree = refl;
-}
-
-module _ {C S E : List ℕ} {t : Trip} {W : List ℕ} {r : ℕ} (f : First (chart C S E t W) W r) (pos : 0 < r) where
-  -- The foremost place has an entry.
-  pub first-entry : 0 < getD (columnOf (t .k + 2) W Label) (r - 1) 0
-  first-entry = omega (arith, some-read (getD (columnOf (t .k + 2) W Label) (r - 1) 0) _ (f .some pos .waits .1))
-
-  -- It leaves room for one link more.
-  pub first-near : Near (chart C S E t W) (labelsOf (t .k + 2) W) → getD (columnOf (t .k + 2) W Label) (r - 1) 0 ≤ limit + 1
-  first-near near = omega (arith, near .near (r - 1) _ (f .some pos))
-
-  -- It is marked, and all its links are followed: a step.
-  pub settling-some :
-      Ready C S E t W → {T W′ T′ W″ T″ : List ℕ} → Marked t W T (r - 1) W′ T′ →
-      Followed C S E t W′ T′ (r - 1) (getD (columnOf (t .k + 2) W Label) (r - 1) 0) (linkCount (chart C S E t W′) (r - 1)) W″ T″ →
-      Settling C S E t W T r W″ T″
-  settling-some ready {T} {W′} {T′} {W″} m l = record {
-    inside = f .inside;
-    none = λ z. absurd (omega arith);
-    some = λ h. (_, step-of (chart C S E t W) (columnOf (t .k + 2) W Label) (columnOf (t .k + 2) W Settled) (columnOf (t .k + 2) W″ Label) (columnOf (t .k + 2) W″ Settled) (r - 1) (f .some pos) first-entry offered (l .settled ∙ m .settled) inside);
-    left = left-trans (m .left) (l .left);
-    right = l .right;
-    tree = l .tree ∙ m .tree;
-  }
-    where
-      offered :
-          Offered (chart C S E t W) (r - 1) (getD (columnOf (t .k + 2) W Label) (r - 1) 0) (linkCount (chart C S E t W) (r - 1)) (columnOf (t .k + 2) W Label) (columnOf (t .k + 2) W″ Label)
-      offered = rw (chart-same C S E t (m .left), m .label) at (l .offered)
-
-      inside : r - 1 < length (columnOf (t .k + 2) W Settled)
-      inside = rw (column-length (t .k + 2) W Settled (omega arith) (ready .room)) (omega (arith, f .inside))
-
--- ---- the beginning
--- A tree that holds nobody is right where nothing is labelled.
-pub blank-right :
-    {C : List ℕ} {t : Trip} {W T : List ℕ} → Small C t → t .k + 2 + (t .k + 2) ≤ length T → ((i : ℕ) → i < length T → getD T i 0 ≡ nobody) → Blank (t .k + 2) W →
-    Right C t W T
-blank-right {C} {t} {W} {T} small room bare b = record {
-  small = small;
-  keyed = record {
-    room = room;
-    least = λ i pos h. omega (arith, bare i (omega arith), bare (2 * i) (omega arith), bare (2 * i + 1) (omega arith));
-  };
-  leaf = λ p h.
-      bare (t .k + 2 + p) (omega arith) ∙
-      sym (leaf-nobody (columnOf (t .k + 2) W Label) (columnOf (t .k + 2) W Settled) (cellAt C t) p (waits-blank (columnOf (t .k + 2) W Label) (columnOf (t .k + 2) W Settled) (cellAt C t) p (omega (arith, b .settled p)) (omega (arith, b .label p))));
-}

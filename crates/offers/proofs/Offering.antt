@@ -1,4 +1,4 @@
--- What an offer and a mark do to the work space and the tree.
+-- What an offer does to the work space and the tree.
 -- Assumes nothing.
 use mathlib.Core.Path.{_≡_, refl, sym, _∙_, ap}
 use mathlib.Core.List.{List}
@@ -11,21 +11,10 @@ use Rattle.places.specs.declared.Trip.{Trip}
 use Rattle.places.specs.Columns.{columnOf, Label, Settled, Put}
 use Rattle.places.specs.Places.{cellAt}
 use Rattle.places.proofs.Columns.{only-left, left-same}
-use Rattle.search.specs.Tree.{Right}
-use Rattle.search.specs.Offers.{lowered, Offer, Marked}
-use Rattle.search.proofs.Trees.{key-fits, right-label, right-still, right-settled}
-use Rattle.search.proofs.Steps.{Lowered, lowered-is}
-
--- A place that is marked, with the tree put right.
-pub marked-of :
-    {t : Trip} {W T W′ T′ : List ℕ} {u : ℕ} → 6 * (t .k + 2) ≤ length W → u < t .k + 2 → Put (t .k + 2) W Settled u 1 W′ → Changed (t .k + 2) T u nobody T′ → Marked t W T u W′ T′
-marked-of room h s c = record {
-  label = s .only .others Label (λ q. omega arith);
-  settled = s .here;
-  left = only-left (omega arith) (s .only);
-  right = λ C right. right-settled right room h s c;
-  tree = c .sized;
-}
+use Rattle.offers.specs.Tree.{Right}
+use Rattle.offers.specs.Offers.{lowered, Offer}
+use Rattle.offers.proofs.Trees.{key-fits, right-label, right-still}
+use Rattle.offers.proofs.Entries.{Lowered, lowered-is}
 
 -- An offer that is no news.
 pub offer-kept :

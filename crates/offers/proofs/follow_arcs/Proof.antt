@@ -1,13 +1,13 @@
--- `search::follow_arcs` meets its contract. Assumes nothing.
+-- `offers::follow_arcs` meets its contract. Assumes nothing.
 use native.Mathlib.Omega.{arith}
 use borrow.Author.Needs.{needs}
 use mathlib.Core.Path.{_≡_, refl, sym, _∙_}
 use Prim.Native.Nat.{_≤_, _-_}
 use Rattle.places.proofs.Told.{told-corner, told-end}
 use Rattle.places.proofs.Charts.{arc-within, arc-entry, arc-place, arc-cells}
-use Rattle.search.proofs.Follows.{ready-room, followed-none, Following, following-first, following-more, arc-followed}
-use Rattle.search.proofs.follow_arcs.Statement.{statement}
-use Rattle.search.proofs.follow_arcs.Tie as tie
+use Rattle.offers.proofs.Follows.{ready-room, followed-none, Following, following-first, following-more, arc-followed}
+use Rattle.offers.proofs.follow_arcs.Statement.{statement}
+use Rattle.offers.proofs.follow_arcs.Tie as tie
 
 abbrev Inv-loop : tie.InvT-loop
 Inv-loop corners starts neighbours t table work₀ tree₀ u d a first count j₀ work tree j = (j ≤ count) × Following corners starts neighbours t work₀ tree₀ u d 0 j work tree

@@ -1,18 +1,20 @@
--- What the parts of a step do to the work space.
+-- What offers do to the work space.
 -- Assumes nothing.
 use mathlib.Core.Path.{_≡_}
 use mathlib.Core.Logic.{_⊎_}
 use mathlib.Core.Bool.{cond}
 use mathlib.Core.List.{List}
-use Prim.Native.Nat.{ℕ, _+_, _-_, _≤_, _<_, min}
+use Prim.Native.Nat.{ℕ, _+_, _≤_, _<_, min}
 use lib.Dec.{ltb}
 use lib.ListN.{length, getD, set}
-use Rattle.settling.specs.Labels.{WaitingAt}
 use Rattle.places.specs.declared.Trip.{Trip}
 use Rattle.places.specs.Columns.{columnOf, Label, Settled, Left}
 use Rattle.places.specs.Chart.{Chart, chart, linkAt, net}
-use Rattle.search.specs.Tree.{Right}
-use Rattle.search.specs.Search.{labelsOf, Foremost}
+use Rattle.offers.specs.Tree.{Right}
+
+-- The weight of 16,383 diagonal steps: no shortest walk on a floor has more steps.
+abbrev pub limit : ℕ
+limit = 1871643069
 
 -- The entry after an offer: the less of the two, where there was one.
 abbrev pub lowered : ℕ → ℕ → ℕ
@@ -46,17 +48,3 @@ pub record Followed (C S E : List ℕ) (t : Trip) (W T : List ℕ) (u d k : ℕ)
   pub left : Left (t .k + 2) W W′
   pub right : Right C t W′ T′
   pub tree : length T′ ≡ length T
-
--- Place u is settled, and the tree is right again, whatever the corners that it was right for.
-pub record Marked (t : Trip) (W T : List ℕ) (u : ℕ) (W′ T′ : List ℕ) : Type 0 where
-  pub label : columnOf (t .k + 2) W′ Label ≡ columnOf (t .k + 2) W Label
-  pub settled : columnOf (t .k + 2) W′ Settled ≡ set (columnOf (t .k + 2) W Settled) u 1
-  pub left : Left (t .k + 2) W W′
-  pub right : (C : List ℕ) → Right C t W T → Right C t W′ T′
-  pub tree : length T′ ≡ length T
-
--- r is one more than the place that waits foremost, or 0 where none waits.
-pub record First (𝓒 : Chart) (W : List ℕ) (r : ℕ) : Type 0 where
-  pub inside : r ≤ 𝓒 .trip .k + 2
-  pub none : r ≡ 0 → (v e : ℕ) → WaitingAt (labelsOf (𝓒 .trip .k + 2) W) v e → ⊥
-  pub some : 0 < r → Foremost 𝓒 (labelsOf (𝓒 .trip .k + 2) W) (r - 1) (getD (columnOf (𝓒 .trip .k + 2) W Label) (r - 1) 0 - 1)

@@ -15,7 +15,7 @@ use Rattle.places.specs.declared.Trip.{Trip}
 use Rattle.places.specs.Columns.{columnOf, Label, Settled, Put}
 use Rattle.places.specs.Places.{cellAt}
 use Rattle.places.proofs.Columns.{column-length}
-use Rattle.search.specs.Tree.{waitsAt, leafOf, Right}
+use Rattle.offers.specs.Tree.{waitsAt, leafOf, Right}
 
 -- ---- leaves
 module _ (D F : List ℕ) (cell : ℕ → ℕ) where

@@ -1,4 +1,4 @@
--- `search::follow_all` meets its contract. Assumes nothing.
+-- `offers::follow_all` meets its contract. Assumes nothing.
 use native.Mathlib.Omega.{arith}
 use mathlib.Core.Path.{_≡_, sym, _∙_}
 use Prim.Native.Nat.{ℕ, _≤_, _+_, _-_}
@@ -7,9 +7,9 @@ use Rattle.places.specs.Chart.{chart, linkCount}
 use Rattle.places.specs.Flagging.{firstTold}
 use Rattle.places.proofs.Charts.{ready-kept}
 use Rattle.places.proofs.Told.{told-all}
-use Rattle.search.proofs.Follows.{Following, following-first, following-more}
-use Rattle.search.proofs.follow_all.Statement.{statement}
-use Rattle.search.proofs.follow_all.Tie as tie
+use Rattle.offers.proofs.Follows.{Following, following-first, following-more}
+use Rattle.offers.proofs.follow_all.Statement.{statement}
+use Rattle.offers.proofs.follow_all.Tie as tie
 
 abbrev Inv-loop : tie.InvT-loop
 Inv-loop corners starts neighbours t table work₀ tree₀ u d f i₀ work tree i =

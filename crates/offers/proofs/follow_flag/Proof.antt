@@ -1,12 +1,12 @@
--- `search::follow_flag` meets its contract. Assumes nothing.
+-- `offers::follow_flag` meets its contract. Assumes nothing.
 use native.Mathlib.Omega.{arith}
 use mathlib.Core.Path.{_≡_, sym, _∙_}
 use borrow.Author.Needs.{needs}
 use Rattle.places.proofs.Links.{two-cells}
 use Rattle.places.proofs.Told.{tells, told-place}
-use Rattle.search.proofs.Follows.{ready-room, flag-followed, flag-passed}
-use Rattle.search.proofs.follow_flag.Statement.{statement}
-use Rattle.search.proofs.follow_flag.Tie as tie
+use Rattle.offers.proofs.Follows.{ready-room, flag-followed, flag-passed}
+use Rattle.offers.proofs.follow_flag.Statement.{statement}
+use Rattle.offers.proofs.follow_flag.Tie as tie
 
 mul-at : tie.Need-mul-at
 mul-at c = omega (arith, tells (c .before .before .before .before .before .before .args .i) (c .before .before .before .before .before .before .pre .0) (c .before .before .before .before .before .before .pre .1 .1 .0) (c .before .before .before .before .before .before .pre .1 .1 .1 .0) (c .before .before .before .before .before .before .pre .1 .1 .1 .1 .0) .within)

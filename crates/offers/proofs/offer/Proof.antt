@@ -1,10 +1,10 @@
--- `search::offer` meets its contract. Assumes nothing.
+-- `offers::offer` meets its contract. Assumes nothing.
 use native.Mathlib.Omega.{arith}
 use borrow.Author.Needs.{needs}
 use mathlib.Core.Path.{sym, _∙_}
-use Rattle.search.proofs.Offering.{offer-kept, offer-fits, offer-climbed, offer-settled}
-use Rattle.search.proofs.offer.Statement.{statement}
-use Rattle.search.proofs.offer.Tie as tie
+use Rattle.offers.proofs.Offering.{offer-kept, offer-fits, offer-climbed, offer-settled}
+use Rattle.offers.proofs.offer.Statement.{statement}
+use Rattle.offers.proofs.offer.Tie as tie
 
 key-requires : tie.Need-key-requires
 key-requires c κs =

@@ -1,8 +1,8 @@
--- `search::lowered` meets its contract. Assumes nothing.
+-- `offers::lowered` meets its contract. Assumes nothing.
 use native.Mathlib.Omega.{arith}
 use borrow.Author.Tests.{lt-ltb, le-ltb}
-use Rattle.search.proofs.lowered.Statement.{statement}
-use Rattle.search.proofs.lowered.Tie as tie
+use Rattle.offers.proofs.lowered.Statement.{statement}
+use Rattle.offers.proofs.lowered.Tie as tie
 
 returns : tie.Need-returns
 returns c = rw (le-ltb 0 (c .before .args .old) (omega arith))
