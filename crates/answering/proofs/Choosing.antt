@@ -18,8 +18,9 @@ use Rattle.chain.specs.Route.{LineClear}
 use Rattle.ends.specs.Prepared.{Searchable}
 use Rattle.answering.specs.Asked.{Asked, startCell, goalCell, workSize}
 use Rattle.answering.specs.Steps.{Unrefused, LateOutcome}
-use Rattle.answering.specs.Answers.{LineAnswer, SearchAnswer, Beyond}
-use Rattle.answering.specs.declared.Answer.{Answer}
+use Rattle.telling.specs.Told.{LineAnswer}
+use Rattle.answering.specs.Answers.{SearchAnswer, Beyond}
+use Rattle.telling.specs.declared.Answer.{Answer}
 use Rattle.answering.proofs.Late.{late-line, late-lost, late-search}
 use Rattle.answering.proofs.Still.{start-is-goal}
 

@@ -16,8 +16,9 @@ use Rattle.corners.specs.Lists.{written}
 use Rattle.chain.specs.Route.{LineClear, RouteOf, cellsOf}
 use Rattle.answering.specs.Asked.{Asked, startCell, goalCell, workSize, Distance, WalkFound, Billed}
 use Rattle.answering.specs.Steps.{LateOutcome}
-use Rattle.answering.specs.Answers.{Measured, RouteLeft, LineAnswer, SearchFound, SearchLost}
-use Rattle.answering.specs.declared.Answer.{Answer}
+use Rattle.telling.specs.Told.{Measured, RouteLeft, LineAnswer}
+use Rattle.answering.specs.Answers.{SearchFound, SearchLost}
+use Rattle.telling.specs.declared.Answer.{Answer}
 
 module _ (a : Asked) where
   -- the direct line from start to goal is legal

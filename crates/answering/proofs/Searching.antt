@@ -22,9 +22,10 @@ use Rattle.chain.proofs.Chains.{bounded}
 use Rattle.chain.proofs.Efforts.{outcome-found, outcome-lost}
 use Rattle.chain.proofs.Backwards.{run-walked}
 use Rattle.ends.specs.Prepared.{Empty, Prepared, Searchable}
-use Rattle.answering.specs.Answers.{SearchAnswer, Retraced, Beyond}
-use Rattle.answering.specs.declared.Answer.{Answer}
-use Rattle.answering.proofs.Wiping.{zeroed-length, zeroed-rest}
+use Rattle.telling.specs.Told.{Retraced}
+use Rattle.answering.specs.Answers.{SearchAnswer, Beyond}
+use Rattle.telling.specs.declared.Answer.{Answer}
+use Rattle.telling.proofs.Wiping.{zeroed-length, zeroed-rest}
 
 -- ---- a cleared work space
 -- the first entries are 0

@@ -10,7 +10,7 @@ use Rattle.corners.specs.Lists.{written}
 use Rattle.plan.specs.Plan.{Lists}
 use Rattle.effort.specs.Effort.{Far, EffortFound}
 use Rattle.chain.specs.Route.{cellsOf, LineClear, RouteOf}
-use Rattle.answering.specs.declared.Answer.{Answer}
+use Rattle.telling.specs.declared.Answer.{Answer}
 
 -- what is asked: a floor, its plan, start and goal by column and row, and the room lent
 pub record Asked : Type 0 where

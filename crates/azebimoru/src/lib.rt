@@ -5,9 +5,9 @@ ghost use Rattle.floor.specs.Refusals.{Tells};
 ghost use Rattle.survey.specs.Survey.{lists, SurveyOutcome};
 ghost use Rattle.query.specs.Query.{QueryOutcome};
 ghost use Rattle.azebimoru.specs.Matches.{OwnPlan};
-use answering::Answer;
 use lengths::Length;
 use survey::Surveyed;
+use telling::Answer;
 
 // -1, 0 or 1, as the length of a straight and b diagonal steps is less than that of c and d, the same or more.
 #[no_mangle]

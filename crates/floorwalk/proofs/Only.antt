@@ -27,7 +27,7 @@ use Rattle.chain.specs.Route.{cellsOf, RouteOf}
 use Rattle.chain.proofs.Legal.{route-cells}
 use Rattle.chain.proofs.Single.{route-unique}
 use Rattle.effort.proofs.Bounds.{lost-unique}
-use Rattle.answering.specs.declared.Answer.{Answer}
+use Rattle.telling.specs.declared.Answer.{Answer}
 use Rattle.answering.specs.Asked.{Asked, startCell, goalCell, workSize, Distance, WalkFound, NoRoute}
 use Rattle.query.specs.Query.{Shut, QueryOutcome}
 use Rattle.query.proofs.Outcome.{codes, code-kind, found-same, no-route-same}

@@ -19,7 +19,7 @@ use Rattle.plan.specs.Plan.{Fits}
 use Rattle.settling.specs.Counts.{Counts, empty, with, without, below}
 use Rattle.effort.proofs.Bounds.{found-bound, lost-bound}
 use Rattle.answering.specs.Asked.{Asked, startCell, goalCell, Billed}
-use Rattle.answering.specs.declared.Answer.{Answer}
+use Rattle.telling.specs.declared.Answer.{Answer}
 use Rattle.query.specs.Query.{Answered, QueryOutcome}
 use Rattle.query.proofs.Passed.{passed, answered-late}
 

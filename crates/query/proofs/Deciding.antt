@@ -10,7 +10,7 @@ use Rattle.floor.specs.Words.{rowWords, UnusedClear}
 use Rattle.plan.specs.Plan.{Fits}
 use Rattle.answering.specs.Asked.{Asked}
 use Rattle.answering.specs.Steps.{lateRows, LateOutcome}
-use Rattle.answering.specs.declared.Answer.{Answer}
+use Rattle.telling.specs.declared.Answer.{Answer}
 use Rattle.query.specs.Query.{queryRows, QueryOutcome}
 use Rattle.query.specs.Refusing.{Judged, planRows, endRows, CodeOnly}
 use Rattle.query.proofs.Early.{plan-refuses, ends-refuse, late-decides}

@@ -17,7 +17,7 @@ use Rattle.effort.proofs.Bounds.{found-unique, lost-unique}
 use Rattle.chain.specs.Route.{cellsOf}
 use Rattle.chain.proofs.Single.{route-unique}
 use Rattle.answering.specs.Asked.{Asked, startCell, goalCell, Billed, WalkFound, NoRoute, RouteWritten}
-use Rattle.answering.specs.declared.Answer.{Answer}
+use Rattle.telling.specs.declared.Answer.{Answer}
 use Rattle.query.specs.Query.{queryRows, QueryOutcome}
 
 -- the numbers of a table's rows

@@ -21,7 +21,7 @@ use Rattle.plan.specs.Plan.{Fits}
 use Rattle.effort.specs.Net.{Startable}
 use Rattle.chain.specs.Route.{cellsOf}
 use Rattle.answering.specs.Asked.{Asked, startCell, goalCell, workSize, Distance}
-use Rattle.answering.specs.declared.Answer.{Answer}
+use Rattle.telling.specs.declared.Answer.{Answer}
 use Rattle.query.specs.Query.{Shut, queryRows, Answered}
 
 -- a row that did not give its number does not apply, and the rows after it decide

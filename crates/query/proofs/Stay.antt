@@ -11,7 +11,7 @@ use Rattle.effort.specs.Net.{Startable}
 use Rattle.chain.specs.Route.{LineClear, cellsOf}
 use Rattle.chain.proofs.Legal.{start-near}
 use Rattle.answering.specs.Asked.{Asked, startCell, goalCell, Distance, Billed, WalkFound}
-use Rattle.answering.specs.declared.Answer.{Answer}
+use Rattle.telling.specs.declared.Answer.{Answer}
 use Rattle.answering.proofs.Still.{start-is-goal}
 use Rattle.query.specs.Query.{Answered, QueryOutcome}
 use Rattle.query.proofs.Passed.{passed, answered-late, trip-passed}

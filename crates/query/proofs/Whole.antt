@@ -20,7 +20,7 @@ use Rattle.line.specs.Cells.{after}
 use Rattle.chain.specs.Route.{cellsOf}
 use Rattle.chain.proofs.Legal.{route-legal, route-cells, route-ends, route-inside}
 use Rattle.answering.specs.Asked.{Asked, startCell, goalCell}
-use Rattle.answering.specs.declared.Answer.{Answer}
+use Rattle.telling.specs.declared.Answer.{Answer}
 use Rattle.query.specs.Query.{QueryOutcome}
 use Rattle.query.proofs.Passed.{Passed, passed, trip-passed, done-room}
 

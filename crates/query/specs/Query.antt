@@ -16,7 +16,7 @@ use Rattle.plan.specs.Plan.{Fits}
 use Rattle.effort.specs.Effort.{EffortLost}
 use Rattle.chain.specs.Route.{cellsOf}
 use Rattle.answering.specs.Asked.{Asked, startCell, goalCell, workSize, Distance, WalkFound, NoRoute, RouteWritten}
-use Rattle.answering.specs.declared.Answer.{Answer}
+use Rattle.telling.specs.declared.Answer.{Answer}
 
 -- a cell is outside or blocked
 abbrev pub Shut : ℕ → ℕ → List ℕ → ℕ → ℕ → Type 0

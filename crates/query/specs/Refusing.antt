@@ -7,7 +7,7 @@ use Rattle.floor.specs.Refusals.{Refusal, refuse, FirstOf}
 use Rattle.floor.specs.Words.{floorRows}
 use Rattle.plan.specs.Plan.{Lists, Fits}
 use Rattle.answering.specs.Asked.{Asked}
-use Rattle.answering.specs.declared.Answer.{Answer}
+use Rattle.telling.specs.declared.Answer.{Answer}
 use Rattle.query.specs.Query.{Shut}
 
 -- the rows 1, 2, 3 and 8

@@ -3,7 +3,7 @@ ghost use Rattle.floor.specs.Words.{Floor};
 ghost use Rattle.plan.specs.Plan.{Fits};
 ghost use Rattle.query.specs.Query.{QueryOutcome};
 ghost use Rattle.query.specs.Refusing.{CodeOnly};
-use answering::Answer;
+use telling::Answer;
 
 mod refusing;
 
@@ -44,7 +44,7 @@ pub fn ask(
     if code != 0 {
         return refused(code);
     }
-    answering::ways::answer(
+    answering::answer(
         words,
         w,
         h,

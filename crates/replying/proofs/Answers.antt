@@ -10,7 +10,7 @@ use Rattle.floor.specs.Refusals.{Refusal, refuse, FirstOf, Numbered}
 use Rattle.floor.specs.Words.{floorRows, board, placeOf}
 use Rattle.ground.specs.Kind.{walkers}
 use Rattle.ground.specs.Walk.{NoWalk}
-use Rattle.answering.specs.declared.Answer.{Answer}
+use Rattle.telling.specs.declared.Answer.{Answer}
 use Rattle.plan.specs.Plan.{Fits}
 use Rattle.answering.specs.Asked.{Asked, startCell, goalCell, workSize}
 use Rattle.query.specs.Query.{Shut, QueryOutcome}

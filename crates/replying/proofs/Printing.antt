@@ -5,7 +5,7 @@ use mathlib.Core.Path.{_≡_, refl, sym, ap, ap₂, _∙_}
 use native.Mathlib.Omega.{arith}
 use lib.ListN.{length, getD, take}
 use lib.Seq.{getD-take, length-take-le}
-use Rattle.answering.specs.declared.Answer.{Answer}
+use Rattle.telling.specs.declared.Answer.{Answer}
 use Rattle.writing.specs.Answers.{answerNumbers, routeCells}
 use Rattle.writing.proofs.Puts.{digits-64, answer-length, route-length}
 use Rattle.replying.specs.Replies.{figureIn, numbersOf, routePart, replyLine, Printable}

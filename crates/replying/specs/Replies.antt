@@ -6,7 +6,7 @@ use mathlib.Core.Logic.{_⊎_}
 use mathlib.Core.Path.{_≡_}
 use lib.ListN.{length, take}
 use Rattle.lengths.specs.Lengths.{pair, figureOf}
-use Rattle.answering.specs.declared.Answer.{Answer}
+use Rattle.telling.specs.declared.Answer.{Answer}
 use Rattle.answering.specs.Asked.{Asked}
 use Rattle.query.specs.Query.{QueryOutcome}
 use Rattle.reading.specs.Lines.{At, FourLine}

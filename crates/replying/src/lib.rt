@@ -8,8 +8,8 @@ ghost use lib.ListN.{length};
 ghost use Rattle.writing.specs.Answers.{Put, inputRefused};
 ghost use Rattle.opening.specs.Grounds.{ground, Walkable};
 ghost use Rattle.replying.specs.Replies.{replyLine, Printable, PutLine, Begins, Room, spotOf, RefusedAt, RepliedTo};
-use answering::Answer;
 use reading::Four;
+use telling::Answer;
 
 mod filling;
 

@@ -1,9 +1,9 @@
--- `answering::ways::answer` meets its contract: by the direct line where it is legal, else by the search. Assumes nothing.
+-- `answering::answer` meets its contract: by the direct line where it is legal, else by the search. Assumes nothing.
 use native.Mathlib.Omega.{arith}
 use borrow.Author.Needs.{needs}
 use Rattle.answering.proofs.Choosing.{start-cell, goal-cell, small-ends, by-line, searchable, by-search}
-use Rattle.answering.proofs.ways.answer.Statement.{statement}
-use Rattle.answering.proofs.ways.answer.Tie as tie
+use Rattle.answering.proofs.answer.Statement.{statement}
+use Rattle.answering.proofs.answer.Tie as tie
 
 line-legal-requires : tie.Need-line-legal-requires
 line-legal-requires c κs = search needs

@@ -14,9 +14,9 @@ use Rattle.line.specs.Cells.{legs}
 use Rattle.chain.specs.Chain.{Journey, Walked, cellsAt, Linked, Paved}
 use Rattle.chain.proofs.Backwards.{walked-kept}
 use Rattle.chain.proofs.Paving.{linked-route, linked-paved}
-use Rattle.answering.specs.Answers.{Told, Retraced}
-use Rattle.answering.specs.declared.Answer.{Answer}
-use Rattle.answering.proofs.Telling.{told-fits}
+use Rattle.telling.specs.Told.{Told, Retraced}
+use Rattle.telling.specs.declared.Answer.{Answer}
+use Rattle.telling.proofs.Telling.{told-fits}
 
 module _ {a : Journey} {C S E : List ℕ} {t : Trip} {W W′ : List ℕ} {l : Length} (k : Walked a C S E t W) (o : Only (t .k + 2) W Next W′) (n : Linked a C t W′ l)
     {effort : ℕ} {r : Answer} (route₀ : List ℕ) (told : Told (lenOf l) effort (length route₀) r) where

@@ -1,10 +1,10 @@
--- `answering::ways::tell` meets its contract. Assumes nothing.
+-- `telling::tell` meets its contract. Assumes nothing.
 use mathlib.Core.Logic.{⊎-elim}
 use mathlib.Core.Path.{refl}
 use native.Mathlib.Omega.{arith}
 use borrow.Author.Needs.{needs}
-use Rattle.answering.proofs.ways.tell.Statement.{statement}
-use Rattle.answering.proofs.ways.tell.Tie as tie
+use Rattle.telling.proofs.tell.Statement.{statement}
+use Rattle.telling.proofs.tell.Tie as tie
 
 returns : tie.Need-returns
 returns c = record {

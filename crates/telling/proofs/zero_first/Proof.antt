@@ -1,13 +1,13 @@
--- `answering::ways::zero_first` meets its contract: the loop's invariant: the entries passed are 0, and no other changed. Assumes nothing.
+-- `telling::zero_first` meets its contract: the loop's invariant: the entries passed are 0, and no other changed. Assumes nothing.
 use Prim.Native.Nat.{ℕ, _-_, _≤_}
 use mathlib.Core.List.{List}
 use mathlib.Core.Path.{_≡_, _∙_, ap}
 use native.Mathlib.Omega.{arith}
 use borrow.Author.Needs.{needs}
 use lib.ListN.{length, set, length-set}
-use Rattle.answering.proofs.Wiping.{zeroed, zeroed-none, zeroed-more}
-use Rattle.answering.proofs.ways.zero_first.Statement.{statement}
-use Rattle.answering.proofs.ways.zero_first.Tie as tie
+use Rattle.telling.proofs.Wiping.{zeroed, zeroed-none, zeroed-more}
+use Rattle.telling.proofs.zero_first.Statement.{statement}
+use Rattle.telling.proofs.zero_first.Tie as tie
 
 abbrev Inv-loop : tie.InvT-loop
 Inv-loop work₀ count i₀ work i = (i ≤ count) × (length work ≡ length work₀) × (work ≡ zeroed i work₀)

@@ -14,8 +14,8 @@ use Rattle.line.specs.Cells.{after, steps, LineWritten}
 use Rattle.line.proofs.Firsts.{steps-octile}
 use Rattle.line.proofs.Legs.{line-cells}
 use Rattle.chain.specs.Route.{cellsOf}
-use Rattle.answering.specs.Answers.{Told, LineAnswer}
-use Rattle.answering.specs.declared.Answer.{Answer}
+use Rattle.telling.specs.Told.{Told, LineAnswer}
+use Rattle.telling.specs.declared.Answer.{Answer}
 
 -- what is said with 0 fits
 pub told-fits : {l : Len} {effort room : ℕ} {r : Answer} → Told l effort room r → r .code ≡ 0 → cellsOf l ≤ room

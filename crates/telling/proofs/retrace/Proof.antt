@@ -1,12 +1,12 @@
 use borrow.Author.Needs.{needs}
-use Rattle.answering.proofs.Retracing.{told-paved, retraced-written, retraced-full}
-use Rattle.answering.proofs.ways.retrace.Statement.{statement}
-use Rattle.answering.proofs.ways.retrace.Tie as tie
+use Rattle.telling.proofs.Retracing.{told-paved, retraced-written, retraced-full}
+use Rattle.telling.proofs.retrace.Statement.{statement}
+use Rattle.telling.proofs.retrace.Tie as tie
 use Rattle.chain.proofs.link_back.Reads as link-back-reads
 use Rattle.chain.proofs.write_route.Reads as write-route-reads
-use Rattle.answering.proofs.ways.retrace.Reads as reads
-use Rattle.answering.proofs.ways.retrace.Lts as lts
-use Rattle.answering.proofs.ways.tell.Reads as tell-reads
+use Rattle.telling.proofs.retrace.Reads as reads
+use Rattle.telling.proofs.retrace.Lts as lts
+use Rattle.telling.proofs.tell.Reads as tell-reads
 
 link-back-requires : tie.Need-link-back-requires
 link-back-requires c κs = search needs

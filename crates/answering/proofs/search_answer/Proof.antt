@@ -1,4 +1,4 @@
--- `answering::ways::search_answer` meets its contract: the work space is cleared and prepared, and the search made in it. Assumes nothing.
+-- `answering::search_answer` meets its contract: the work space is cleared and prepared, and the search made in it. Assumes nothing.
 use mathlib.Core.Logic.{inr}
 use mathlib.Core.Path.{refl, _∙_, ap, subst}
 use Prim.Native.Nat.{ℕ, _<_, _≤_}
@@ -6,10 +6,10 @@ use native.Mathlib.Omega.{arith}
 use borrow.Author.Needs.{needs}
 use lib.ListN.{length}
 use Rattle.places.proofs.Charts.{corner-small}
-use Rattle.answering.proofs.Wiping.{zeroed-length}
+use Rattle.telling.proofs.Wiping.{zeroed-length}
 use Rattle.answering.proofs.Searching.{cleared-empty, still-searchable, search-ready, search-bounded, goal-read, few-settled, goal-walked, answer-found, lost-effort, lost-beyond, found-beyond}
-use Rattle.answering.proofs.ways.search_answer.Statement.{statement}
-use Rattle.answering.proofs.ways.search_answer.Tie as tie
+use Rattle.answering.proofs.search_answer.Statement.{statement}
+use Rattle.answering.proofs.search_answer.Tie as tie
 
 add-zero-first : tie.Need-add-zero-first
 add-zero-first c = search needs

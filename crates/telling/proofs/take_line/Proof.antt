@@ -1,13 +1,13 @@
--- `answering::ways::take_line` meets its contract. Assumes nothing.
+-- `telling::take_line` meets its contract. Assumes nothing.
 use mathlib.Core.Path.{_∙_}
 use native.Mathlib.Omega.{arith}
 use borrow.Author.Needs.{needs}
 use lib.ListN.{length-set}
 use Rattle.floor.specs.Board.{at}
 use Rattle.floor.specs.Words.{numberOf}
-use Rattle.answering.proofs.Telling.{line-room, line-taken, line-kept}
-use Rattle.answering.proofs.ways.take_line.Statement.{statement}
-use Rattle.answering.proofs.ways.take_line.Tie as tie
+use Rattle.telling.proofs.Telling.{line-room, line-taken, line-kept}
+use Rattle.telling.proofs.take_line.Statement.{statement}
+use Rattle.telling.proofs.take_line.Tie as tie
 
 slice-write-route : tie.Need-slice-write-route
 slice-write-route c =

@@ -1,0 +1,4 @@
+-- Laws that belong to no one function.
+pub mod Wiping
+pub mod Telling
+pub mod Retracing
