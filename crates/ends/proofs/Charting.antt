@@ -71,9 +71,7 @@ module _ (w h : ℕ) (words : List ℕ) (p : Lists) (start goal : ℕ) (W : List
   flaggable cell n c W′ l f e m s =
       record {
         sweep = record {
-          floor = able .floor;
-          long = let z = own .marks .four-each in omega arith;
-          cleared = own .marks .cleared;
+          known = record { floor = able .floor; long = let z = own .marks .four-each in omega arith; cleared = own .marks .cleared };
           cell-in = l;
           free = f;
         };

@@ -14,7 +14,7 @@ use Rattle.floor.specs.Refusals.{Tells}
 use Rattle.ground.specs.Clearance.{ahead, Clearance}
 use Rattle.ground.proofs.Logic.{true-or-false, not-both}
 use Rattle.ground.proofs.Cells.{column-inside, row-inside}
-use Rattle.fields.specs.Fields.{slant, side, across, Opened, Come, ShowsIn, Own, OwnIn, Coming, PassedRow, NewRow, Plainly, rowClearance, Known, OnSome, StepTold, NextTo, Ends, Said, AllSaid, KeptIf, RowRead}
+use Rattle.fields.specs.Fields.{slant, side, across, Opened, Come, ShowsIn, Own, OwnIn, Coming, PassedRow, NewRow, Plainly, rowClearance, OnSome, StepTold, NextTo, Ends, Said, AllSaid, KeptIf, RowRead}
 use Rattle.fields.specs.declared.Sweep.{Sweep}
 use Rattle.fields.specs.declared.RowEnd.{RowEnd}
 use Rattle.fields.proofs.Rays.{ahead-next, ray-free, ray-step}
@@ -87,13 +87,9 @@ module _ {w h : ℕ} {words clear : List ℕ} {s : Sweep} (new : NewRow w h word
   here-free : Free B here
   here-free = subst (Free B) (sym (new .standing .there)) (ray-free B d (s .row) (s .row) from (new .standing .come .ray) (omega arith))
 
-  -- its floor and clearances
-  pub known : Known w h words clear
-  known = record { floor = new .floor; long = new .long; cleared = new .cleared }
-
   -- the same of the cell where the row begins
   pub begins-on : OnSome w clear (s .x) (s .y)
-  begins-on = record { h = h; words = words; known = known; free = here-free }
+  begins-on = record { h = h; words = words; known = new .known; free = here-free }
 
   -- a test of its diagonal step
   pub told-step : {told : Bool} → StepTold w clear (s .x) (s .y) (s .field) told → step B d here ≡ told
@@ -102,13 +98,13 @@ module _ {w h : ℕ} {words clear : List ℕ} {s : Sweep} (new : NewRow w h word
 
   -- the entry that the code reads
   pub row-entry : 4 * numberOf w (s .x) (s .y) + side (s .field) < length clear
-  row-entry = entry-in known (s .x) (s .y) (side (s .field)) (omega arith) here-free
+  row-entry = entry-in (new .known) (s .x) (s .y) (side (s .field)) (omega arith) here-free
 
   -- is the row's clearance
   pub row-clear : (m : ℕ) → m ≡ rowClearance w clear s → RowClear w h words s m
   row-clear m e =
-      let is : Clearance B c here m = rw e (entry-clear known (s .x) (s .y) (side (s .field)) (omega arith) here-free) in
-      record { clear = is; few = few-steps w h words (new .floor .sized) c m here here-free (is .free m (omega arith)) }
+      let is : Clearance B c here m = rw e (entry-clear (new .known) (s .x) (s .y) (side (s .field)) (omega arith) here-free) in
+      record { clear = is; few = few-steps w h words (new .known .floor .sized) c m here here-free (is .free m (omega arith)) }
 
   -- the cell behind the beginning, across, where the row is not the first
   pub row-behind : 0 < s .row → (1 ≤ s .x + 2 * (s .field / 4)) × NextTo w h words (s .x + 2 * (s .field / 4) - 1) (s .y) (s .x) (s .y) (across (s .field))
@@ -122,7 +118,7 @@ module _ {w h : ℕ} {words clear : List ℕ} {s : Sweep} (new : NewRow w h word
   -- the code may go along the row's clearance
   pub goes-row : (m k : ℕ) → RowClear w h words s m → k ≤ m → Goes (s .x) (s .y) (side (s .field)) k
   goes-row m k r l =
-      goes w h words (new .floor .sized) (s .x) (s .y) (side (s .field)) k (omega arith) (let f = r .few in omega arith) here-free (r .clear .free k l)
+      goes w h words (new .known .floor .sized) (s .x) (s .y) (side (s .field)) k (omega arith) (let f = r .few in omega arith) here-free (r .clear .free k l)
 
   -- to its end, which is a cell
   pub end-in : (m x y : ℕ) → RowClear w h words s m → at x y ≡ ahead c m here → (x < w) × (y < h)
@@ -275,7 +271,7 @@ module _ {w h : ℕ} {words clear : List ℕ} {sx sy f n reach : ℕ} (coming : 
   -- the code may go to the row's beginning
   pub goes-come : Goes sx sy (slant f) n
   goes-come =
-      goes w h words (coming .floor .sized) sx sy (slant f) n (omega (arith, coming .field-in)) (coming .few-rows) (ray-at 0 (omega arith))
+      goes w h words (coming .known .floor .sized) sx sy (slant f) n (omega (arith, coming .field-in)) (coming .few-rows) (ray-at 0 (omega arith))
       (ray-at n (omega arith))
 
   module _ (x y : ℕ) (there : at x y ≡ ahead d′ n (at sx sy)) where
@@ -287,9 +283,7 @@ module _ {w h : ℕ} {words clear : List ℕ} {sx sy f n reach : ℕ} (coming : 
     pub come-row : NewRow w h words clear (sweepAt sx sy f n x y reach)
     come-row =
         record {
-          floor = coming .floor;
-          long = coming .long;
-          cleared = coming .cleared;
+          known = coming .known;
           standing = record {
             field-in = coming .field-in;
             column-in = column-of-free w h words x y there-free;
@@ -363,6 +357,6 @@ module _ {w h : ℕ} {words clear : List ℕ} {sx sy f n reach : ℕ} (coming : 
           record {
             said = said-own w h words s′ _ (e .shown) shown kept kept-own (read .said);
             unsaid = unsaid-own w h words s′ _ (e .shown) shown kept kept-own (read .unsaid);
-            goes-on = λ l. (few-rows w h words (coming .floor .sized) d′ (suc n) (at sx sy) (come .ray), come);
+            goes-on = λ l. (few-rows w h words (coming .known .floor .sized) d′ (suc n) (at sx sy) (come .ray), come);
             ends = λ l. absurd (let few = read .few in omega arith);
           }

@@ -70,11 +70,15 @@ pub record OwnIn (w h : ℕ) (words : List ℕ) (sx sy f n : ℕ) (t : Place) : 
   pub own : Own f n (shows .k)
 
 -- ---- passing a row
--- what passing row n takes: a floor, its clearances, and a sweep that has come to the row
-pub record Coming (w h : ℕ) (words clear : List ℕ) (sx sy f n reach : ℕ) : Type 0 where
+-- a floor, and its clearances
+pub record Known (w h : ℕ) (words clear : List ℕ) : Type 0 where
   pub floor : Floor w h words
   pub long : 4 * (w * h) ≤ length clear
   pub cleared : Cleared w h words clear
+
+-- what passing row n takes: a floor, its clearances, and a sweep that has come to the row
+pub record Coming (w h : ℕ) (words clear : List ℕ) (sx sy f n reach : ℕ) : Type 0 where
+  pub known : Known w h words clear
   pub field-in : f < 8
   pub few-rows : n < 255
   pub come : Come (board w h words) (at sx sy) (dirAt (slant f)) (dirAt (side f)) n reach
@@ -98,9 +102,7 @@ pub record Standing (w h : ℕ) (words : List ℕ) (s : Sweep) : Type 0 where
 
 -- what reading a row takes: a floor, its clearances, and a sweep that stands
 pub record NewRow (w h : ℕ) (words clear : List ℕ) (s : Sweep) : Type 0 where
-  pub floor : Floor w h words
-  pub long : 4 * (w * h) ≤ length clear
-  pub cleared : Cleared w h words clear
+  pub known : Known w h words clear
   pub standing : Standing w h words s
 
 -- the row begins at no turning point, or is the first
@@ -112,12 +114,6 @@ abbrev pub rowClearance : ℕ → List ℕ → Sweep → ℕ
 rowClearance w clear s = getD clear (4 * numberOf w (s .x) (s .y) + side (s .field)) 0
 
 -- ---- what is asked of clearances
--- a floor, and its clearances
-pub record Known (w h : ℕ) (words clear : List ℕ) : Type 0 where
-  pub floor : Floor w h words
-  pub long : 4 * (w * h) ≤ length clear
-  pub cleared : Cleared w h words clear
-
 -- a free cell of some floor of a width that has these clearances
 pub record OnSome (w : ℕ) (clear : List ℕ) (x y : ℕ) : Type 0 where
   pub h : ℕ
@@ -188,8 +184,6 @@ module _ (w h : ℕ) (words : List ℕ) (s : ℕ) where
 
   -- what a sweep from cell s takes
   pub record Sweepable (clear : List ℕ) : Type 0 where
-    pub floor : Floor w h words
-    pub long : 4 * (w * h) ≤ length clear
-    pub cleared : Cleared w h words clear
+    pub known : Known w h words clear
     pub cell-in : s < w * h
     pub free : Free (board w h words) (placeOf w s)

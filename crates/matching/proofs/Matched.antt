@@ -70,9 +70,7 @@ pub corner-ready : (w h : ℕ) (words clear corners : List ℕ) → Floor w h wo
 corner-ready w h words clear corners floor clears whole k l =
     let (m, turns) = entry-turns w h words corners whole k l in (
       record {
-        floor = floor;
-        long = clears .0;
-        cleared = clears .1;
+        known = record { floor = floor; long = clears .0; cleared = clears .1 };
         cell-in = m;
         free = corner-free (board w h words) (placeOf w (getD corners k 0)) turns;
       },

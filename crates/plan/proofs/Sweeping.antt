@@ -54,9 +54,7 @@ module _ {w h : ℕ} {words : List ℕ} {cell field : ℕ} {Q : ℕ → Type 0} 
       Coming w h words clear (cell % w) (cell / w) field row reach
   row-ready ready in-field on =
       record {
-        floor = ready .floor;
-        long = ready .long;
-        cleared = ready .cleared;
+        known = ready .known;
         field-in = in-field;
         few-rows = a .come on .0;
         come = a .come on .1;

@@ -7,7 +7,7 @@ use Rattle.ends.proofs.flag_end.Statement.{statement}
 use Rattle.ends.proofs.flag_end.Tie as tie
 
 corner-cell-requires : tie.Need-corner-cell-requires
-corner-cell-requires c κs = let p = c .before .before .before .before .pre .0 .sweep in (p .floor, p .cell-in)
+corner-cell-requires c κs = let p = c .before .before .before .before .pre .0 .sweep in (p .known .floor, p .cell-in)
 
 flag-links-requires : tie.Need-flag-links-requires
 flag-links-requires c κs = c .before .before .before .before .before .before .before .pre .0

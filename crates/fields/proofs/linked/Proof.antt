@@ -1,7 +1,7 @@
 -- `fields::linked` meets its contract: one law of where a row's clearance ends for each way that the tests go. Assumes nothing.
 use native.Mathlib.Omega.{arith}
 use borrow.Author.Needs.{needs}
-use Rattle.fields.proofs.Passes.{RowClear, known, row-clear, goes-row, end-next, row-ends, linked-far, linked-none, linked-test}
+use Rattle.fields.proofs.Passes.{RowClear, row-clear, goes-row, end-next, row-ends, linked-far, linked-none, linked-test}
 use Rattle.fields.proofs.linked.Statement.{statement}
 use Rattle.fields.proofs.linked.Tie as tie
 
@@ -30,7 +30,7 @@ ends-on-corner-requires c κs =
     let s = start (c .before .before .before) in
     let new = s .pre .0 in
     let there = c .before .ahead-of .ensures in
-    (known new, (end-next new _ _ _ _ _ (cleared s) (omega arith) (c .ahead-of2 .ensures) there, row-ends new _ _ _ (cleared s) there))
+    (new .known, (end-next new _ _ _ _ _ (cleared s) (omega arith) (c .ahead-of2 .ensures) there, row-ends new _ _ _ (cleared s) there))
 
 returns-3 : tie.Need-returns-3
 returns-3 c =

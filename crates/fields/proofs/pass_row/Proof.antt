@@ -43,7 +43,7 @@ begins c z = rw (lt-ltb 0 (start (c .before .before) .args .row) z) at (sym (c .
 named-requires : tie.Need-named-requires
 named-requires c κs =
     let new = stands (c .before .before) in
-    let sized = new .floor .sized in
+    let sized = new .known .floor .sized in
     (sized .wide, le-trans (new .standing .column-in) (sized .wide), le-trans (new .standing .row-in) (sized .high))
 
 returns : tie.Need-returns

@@ -33,7 +33,7 @@ sub-open c =
 named-requires : tie.Need-named-requires
 named-requires c κs =
     let a = c .before .before .before in
-    let sized = start a .pre .0 .floor .sized in
+    let sized = start a .pre .0 .known .floor .sized in
     let cell = end-in (start a .pre .0) _ _ _ (cleared a) (c .ahead-of .ensures) in
     (sized .wide, le-trans (cell .0) (sized .wide), le-trans (cell .1) (sized .high))
 

@@ -1,7 +1,7 @@
 -- `fields::turns` meets its contract: the first row is told apart, and of any other the cell behind its beginning is known. Assumes nothing.
 use borrow.Author.Needs.{needs}
 use borrow.Author.Tests.{lt-ltb, le-ltb}
-use Rattle.fields.proofs.Passes.{known, row-behind}
+use Rattle.fields.proofs.Passes.{row-behind}
 use Rattle.fields.proofs.turns.Statement.{statement}
 use Rattle.fields.proofs.turns.Tie as tie
 
@@ -13,7 +13,7 @@ sub-corner-next : tie.Need-sub-corner-next
 sub-corner-next c = row-behind (start (c .before) .pre) (c .before .if1 .taken) .0
 
 corner-next-requires : tie.Need-corner-next-requires
-corner-next-requires c κs = (known (start (c .before) .pre), row-behind (start (c .before) .pre) (c .before .if1 .taken) .1)
+corner-next-requires c κs = (start (c .before) .pre .known, row-behind (start (c .before) .pre) (c .before .if1 .taken) .1)
 
 returns : tie.Need-returns
 returns c =

@@ -16,10 +16,10 @@ abbrev μ-loop : tie.MeasureT-loop
 μ-loop words w h clear list from to cell field count sx sy sum₀ row₀ reach₀ sum row reach = 256 - row
 
 rem-sx : tie.Need-rem-sx Inv-loop μ-loop
-rem-sx c = c .before .before .before .pre .0 .0 .floor .some-width
+rem-sx c = c .before .before .before .pre .0 .0 .known .floor .some-width
 
 div-sy : tie.Need-div-sy Inv-loop μ-loop
-div-sy c = c .before .before .before .pre .0 .0 .floor .some-width
+div-sy c = c .before .before .before .pre .0 .0 .known .floor .some-width
 
 loop-holds : tie.Need-loop-holds Inv-loop μ-loop
 loop-holds c = let p = c .before .before .before .pre in tallying-begin _ _ _ _ _ (p .0 .0) (p .1 .1)
@@ -33,7 +33,7 @@ tally-shown-requires : tie.Need-tally-shown-requires Inv-loop μ-loop
 tally-shown-requires c κs =
     let l = c .before .before in
     let p = l .before .before .before .before .pre in
-    (p .1 .0, (few-shown _ _ (p .0 .0 .floor .few-cells) _ (c .pass-row .ensures .said), tallied-room _ _ _ _ _ _ _ (p .1 .0) (l .loop .inv .tallied)))
+    (p .1 .0, (few-shown _ _ (p .0 .0 .known .floor .few-cells) _ (c .pass-row .ensures .said), tallied-room _ _ _ _ _ _ _ (p .1 .0) (l .loop .inv .tallied)))
 
 returns : tie.Need-returns Inv-loop μ-loop
 returns c =

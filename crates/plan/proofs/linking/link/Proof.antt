@@ -41,7 +41,7 @@ link-one-requires c κs =
     let s = i .before .before .before .before .before .before .before in
     let l = linking (i .before) in
     let e = entry-turns _ _ _ _ (s .pre .1 .1 .0) (i .before .loop .i) (i .loop-test .taken) in (
-      record { floor = s .pre .0; long = s .pre .1 .0 .0; cleared = s .pre .1 .0 .1; cell-in = e .0; free = corner-free _ _ (e .1) },
+      record { known = record { floor = s .pre .0; long = s .pre .1 .0 .0; cleared = s .pre .1 .0 .1 }; cell-in = e .0; free = corner-free _ _ (e .1) },
       (rw (list-long _ _ _ _ _ _ _ _ _ _ _ _ l) (l .room), l .few),
     )
 

@@ -16,10 +16,10 @@ abbrev μ-loop : tie.MeasureT-loop
 μ-loop words w h clear list₀ from m cell field sx sy end₀ row₀ reach₀ list end row reach = 256 - row
 
 rem-sx : tie.Need-rem-sx Inv-loop μ-loop
-rem-sx c = c .before .before .before .pre .0 .floor .some-width
+rem-sx c = c .before .before .before .pre .0 .known .floor .some-width
 
 div-sy : tie.Need-div-sy Inv-loop μ-loop
-div-sy c = c .before .before .before .pre .0 .floor .some-width
+div-sy c = c .before .before .before .pre .0 .known .floor .some-width
 
 loop-holds : tie.Need-loop-holds Inv-loop μ-loop
 loop-holds c =
@@ -47,7 +47,7 @@ put-shown-requires c κs =
     let i = c .before .before in
     let p = i .before .before .before .before .before .pre in
     let f = swept i .finding in
-    (f .after, (f .inside, few-shown _ _ (p .0 .floor .few-cells) _ (c .before .pass-row .ensures .said)))
+    (f .after, (f .inside, few-shown _ _ (p .0 .known .floor .few-cells) _ (c .before .pass-row .ensures .said)))
 
 enum-known-put : tie.Need-enum-known-put Inv-loop μ-loop
 enum-known-put c = search needs
