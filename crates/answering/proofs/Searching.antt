@@ -20,7 +20,7 @@ use Rattle.chain.specs.Chain.{Journey, Walked}
 use Rattle.chain.proofs.Fairness.{fair}
 use Rattle.chain.proofs.Chains.{bounded}
 use Rattle.chain.proofs.Efforts.{outcome_found, outcome_lost}
-use Rattle.chain.proofs.Backwards.{run-walked}
+use Rattle.chain.proofs.Backwards.{run_walked}
 use Rattle.ends.specs.Prepared.{Empty, Prepared, Searchable}
 use Rattle.telling.specs.Told.{Retraced}
 use Rattle.answering.specs.Answers.{SearchAnswer, Beyond}
@@ -108,7 +108,7 @@ module _ {w h : ℕ} {words : List ℕ} {p : Lists} {start goal : ℕ} {W : List
 
         -- the goal was settled, and the walk to it is known
         pub goal_walked : Walked journey p.corners p.starts p.neighbours t W₃
-        goal_walked = run-walked journey search_ready ready.charted run settled
+        goal_walked = run_walked journey search_ready ready.charted run settled
 
         -- so the answer is the walk back
         pub answer_found : {a : Answer} {route₀ route₁ : List ℕ} → Retraced journey r a route₀ route₁ → SearchAnswer w h words p start goal a route₀ route₁

@@ -1,4 +1,6 @@
 // The answer to a question that is not refused: by the direct line, or by the search.
+#![tactic(auto)]
+
 ghost use Rattle.std.specs.Prelude.{◌+◌, ◌*◌, length};
 ghost use Rattle.ends.specs.Prepared.{Searchable};
 ghost use Rattle.answering.specs.Steps.{Unrefused, LateOutcome};
@@ -21,7 +23,7 @@ fn search_answer(
     work: &mut [u32],
 ) -> Answer
     requires { Searchable w h words.now (record { clear = clear.now; corners = corners.now; starts = starts.now; neighbours = neighbours.now }) start goal work.old }
-    ensures answer { SearchAnswer w h words.now (record { clear = clear.entry.now; corners = corners.now; starts = starts.now; neighbours = neighbours.now }) start goal result route.old route.new }
+    ensures answer { SearchAnswer w h words.now (record { clear = clear.now; corners = corners.now; starts = starts.now; neighbours = neighbours.now }) start goal result route.old route.new }
     ensures beyond { Beyond (6 * (length corners.now + 2)) work.old work.new }
 {
     telling::zero_first(work, 6 * (corners.len() + 2));
@@ -55,7 +57,7 @@ pub fn answer(
     work: &mut [u32],
 ) -> Answer
     requires { Unrefused (record { w = w; h = h; words = words.now; plan = record { clear = clear.now; corners = corners.now; starts = starts.now; neighbours = neighbours.now }; sx = sx; sy = sy; gx = gx; gy = gy; route = route.old; work = work.old }) }
-    ensures { LateOutcome (record { w = w; h = h; words = words.now; plan = record { clear = clear.entry.now; corners = corners.now; starts = starts.now; neighbours = neighbours.now }; sx = sx; sy = sy; gx = gx; gy = gy; route = route.old; work = work.old }) result route.new work.new }
+    ensures { LateOutcome (record { w = w; h = h; words = words.now; plan = record { clear = clear.now; corners = corners.now; starts = starts.now; neighbours = neighbours.now }; sx = sx; sy = sy; gx = gx; gy = gy; route = route.old; work = work.old }) result route.new work.new }
 {
     if line::line_legal(words, w, h, sx, sy, gx, gy) {
         let r = telling::take_line(w, sx, sy, gx, gy, route);

@@ -1,4 +1,6 @@
 // The exported face: what C and Rust programs call. Each function only hands on to the layer that answers.
+#![tactic(auto)]
+
 ghost use Rattle.std.specs.Prelude.{◌≡◌};
 ghost use Rattle.lengths.specs.Lengths.{compare_of, pair};
 ghost use Rattle.floor.specs.Refusals.{Tells};

@@ -18,12 +18,12 @@ use Rattle.settling.specs.Order.{NoLater}
 use Rattle.settling.specs.Labels.{Labels, SettledAt, Sound}
 use Rattle.settling.proofs.Back.{shortest_unique}
 use Rattle.settling.proofs.Search.{settled_shortest, none_before}
-use Rattle.settling.proofs.Instances.{nearest-no-later}
+use Rattle.settling.proofs.Instances.{nearest_no_later}
 use Rattle.effort.specs.Effort.{Far}
 use Rattle.effort.specs.Net.{Precedes, apart as weighs}
 use Rattle.effort.proofs.Weights.{weight_sum, ≼_by_weight}
 use Rattle.effort.proofs.Bridge.{far_small}
-use Rattle.effort.proofs.Before.{no_further, place-before}
+use Rattle.effort.proofs.Before.{no_further, place_before}
 use Rattle.places.specs.Places.{apart}
 use Rattle.places.specs.Chart.{Chart, link_at, link_count, cell, net, order}
 use Rattle.chain.specs.Route.{Before}
@@ -36,11 +36,11 @@ use Rattle.chain.proofs.Chains.{weight_same, shortest_there, shortest_walk, walk
 
 module _ {w h : ℕ} {words : List ℕ} {p : Lists} {start goal : ℕ} {𝓒 : Chart} (ch : Charted w h words p start goal 𝓒) where
   -- What is linked to v, has a shortest length, and with the link adds up to v's, is what precedes v on the floor.
-  pub precedes-iff :
+  pub precedes_iff :
       (u v d e : ℕ) (l : Len) → Used 𝓒 u → Used 𝓒 v → Far w h words start (cell 𝓒 v) l → weight l ≡ d →
       (((j : ℕ) × (j < link_count 𝓒 v) × (link_at 𝓒 v j ≡ u + 1)) × Shortest (net 𝓒) u e × (e + apart 𝓒.trip.w (cell 𝓒 u) (cell 𝓒 v) ≡ d))
       ↔ ((m : Len) × (weight m ≡ e) × Precedes w h words start goal (cell 𝓒 v) l (cell 𝓒 u) m)
-  precedes-iff u v d e l a b f q = (there, back)
+  precedes_iff u v d e l a b f q = (there, back)
     where
       there :
           ((j : ℕ) × (j < link_count 𝓒 v) × (link_at 𝓒 v j ≡ u + 1)) × Shortest (net 𝓒) u e × (e + apart 𝓒.trip.w (cell 𝓒 u) (cell 𝓒 v) ≡ d) →
@@ -79,10 +79,10 @@ module _ {w h : ℕ} {words : List ℕ} {p : Lists} {start goal : ℕ} {𝓒 : C
       )
 
   -- What precedes a place has an index.
-  pub precedes-index :
+  pub precedes_index :
       (v : ℕ) {c : ℕ} {l m : Len} → Precedes w h words start goal (cell 𝓒 v) l c m →
       (u : ℕ) × Used 𝓒 u × (cell 𝓒 u ≡ c) × Precedes w h words start goal (cell 𝓒 v) l (cell 𝓒 u) m
-  precedes-index v {c} {l} {m} t =
+  precedes_index v {c} {l} {m} t =
       let (u, a, e) = place_index ch c t.joined.from in
       (u, a, e, subst (λ (x : ℕ). Precedes w h words start goal (cell 𝓒 v) l x m) (sym e) t)
 
@@ -91,12 +91,12 @@ module _ {w h : ℕ} {words : List ℕ} {p : Lists} {start goal : ℕ} {𝓒 : C
   not_start {v} b other e = other (used_same ch v 𝓒.trip.from b (from_used ch) (e ∙ sym (from_cell ch)))
 
   -- Some place precedes each other than the start.
-  pub some-precedes :
+  pub some_precedes :
       {v : ℕ} {l : Len} → Used 𝓒 v → v ≢ 𝓒.trip.from → Far w h words start (cell 𝓒 v) l →
       (u : ℕ) × Used 𝓒 u × ((m : Len) × Precedes w h words start goal (cell 𝓒 v) l (cell 𝓒 u) m)
-  some-precedes {v} b other f =
-      let (c, m, t) = place-before w h words start goal (trip ch) (cell_place ch v) (not_start b other) f in
-      let (u, a, e, r) = precedes-index v t in
+  some_precedes {v} b other f =
+      let (c, m, t) = place_before w h words start goal (trip ch) (cell_place ch v) (not_start b other) f in
+      let (u, a, e, r) = precedes_index v t in
       (u, a, (m, r))
 
   -- What is linked and adds up is nearer.
@@ -134,8 +134,8 @@ module _ {w h : ℕ} {words : List ℕ} {p : Lists} {start goal : ℕ} {𝓒 : C
         by : (b : Bool) → 𝓢.settled u ≡ b → 𝓢.settled u ≡ true
         by true q = q
         by false q =
-            let k = (nearest-no-later wholes (cell 𝓒) g e t u).0 (none_before (net 𝓒) (order 𝓒) (consistent 𝓒 (fair ch)) 𝓢 ok at-t q s.chain) in
-            let m = (nearest-no-later wholes (cell 𝓒) e g u t).0 l in
+            let k = (nearest_no_later wholes (cell 𝓒) g e t u).0 (none_before (net 𝓒) (order 𝓒) (consistent 𝓒 (fair ch)) 𝓢 ok at-t q s.chain) in
+            let m = (nearest_no_later wholes (cell 𝓒) e g u t).0 l in
             let same : u ≡ t =
             used_same ch u t (shortest_there ch s).0 (settled_used at-t) (le_antisymm (m.1 k.0) (k.1 m.0)) in
             ap 𝓢.settled same ∙ at-t.0
@@ -143,18 +143,18 @@ module _ {w h : ℕ} {words : List ℕ} {p : Lists} {start goal : ℕ} {𝓒 : C
     -- What is nearer than a settled place is settled.
     pub nearer_settled : {t g u e : ℕ} → SettledAt 𝓢 t g → Shortest (net 𝓒) u e → e < g → SettledAt 𝓢 u e
     nearer_settled {t} {g} {u} {e} at-t s l =
-        in_reach_settled at-t s ((nearest-no-later wholes (cell 𝓒) e g u t).1 (omega arith, λ k. absurd (omega arith)))
+        in_reach_settled at-t s ((nearest_no_later wholes (cell 𝓒) e g u t).1 (omega arith, λ k. absurd (omega arith)))
 
     -- The walk back, by labels alone. Below, v is settled at d, and some place is settled at no less.
     module _ {t g v d : ℕ} (at-t : SettledAt 𝓢 t g) (at_v : SettledAt 𝓢 v d) (no_further : d ≤ g) where
       -- what precedes v is linked to it, settled, and adds up
-      pub precedes-labelled :
+      pub precedes_labelled :
           {c : ℕ} {l m : Len} → Far w h words start (cell 𝓒 v) l → Precedes w h words start goal (cell 𝓒 v) l c m →
           (u : ℕ) × (cell 𝓒 u ≡ c) × (net 𝓒).Link v u × SettledAt 𝓢 u (weight m) × (weight m + (net 𝓒).weight u v ≡ d)
-      precedes-labelled {c} {l} {m} f b =
-          let (u, a, e, b') = precedes-index v b in
+      precedes_labelled {c} {l} {m} f b =
+          let (u, a, e, b') = precedes_index v b in
           let q : weight l ≡ d = shortest_unique (net 𝓒) (walk_shortest ch (settled_used at_v) f) (settled_length at_v) in
-          let (k, s, r) = (precedes-iff u v d (weight m) l a (settled_used at_v) f q).1 (m, refl, b') in
+          let (k, s, r) = (precedes_iff u v d (weight m) l a (settled_used at_v) f q).1 (m, refl, b') in
           let less = adds_nearer u v d (weight m) k (settled_used at_v) r in
           (u, e, k, nearer_settled at-t s (omega arith), r)
 
@@ -162,18 +162,18 @@ module _ {w h : ℕ} {words : List ℕ} {p : Lists} {start goal : ℕ} {𝓒 : C
       pub some_labelled : v ≢ 𝓒.trip.from → (u : ℕ) × (e : ℕ) × (net 𝓒).Link v u × SettledAt 𝓢 u e × (e + (net 𝓒).weight u v ≡ d)
       some_labelled other =
           let (l, f, q) = settled_walk at_v in
-          let (x, a, (m, b)) = some-precedes (settled_used at_v) other f in
-          let (u, e, k, s, r) = precedes-labelled f b in
+          let (x, a, (m, b)) = some_precedes (settled_used at_v) other f in
+          let (u, e, k, s, r) = precedes_labelled f b in
           (u, weight m, k, s, r)
 
       -- and of all such places the one with the least cell number is the one before v on the route
-      pub before-labelled :
+      pub before_labelled :
           (u e : ℕ) → (net 𝓒).Link v u → SettledAt 𝓢 u e → e + (net 𝓒).weight u v ≡ d →
           ((x y : ℕ) → (net 𝓒).Link v x → SettledAt 𝓢 x y → y + (net 𝓒).weight x v ≡ d → cell 𝓒 u ≤ cell 𝓒 x) →
           Before w h words start goal (cell 𝓒 v) (cell 𝓒 u)
-      before-labelled u e k s r least =
+      before_labelled u e k s r least =
           let (l, f, q) = settled_walk at_v in
-          let (m, z, b) = (precedes-iff u v d e l (settled_used s) (settled_used at_v) f q).0 (k, settled_length s, r) in
+          let (m, z, b) = (precedes_iff u v d e l (settled_used s) (settled_used at_v) f q).0 (k, settled_length s, r) in
           record {
             far = l;
             shortest = f;
@@ -181,6 +181,6 @@ module _ {w h : ℕ} {words : List ℕ} {p : Lists} {start goal : ℕ} {𝓒 : C
             precedes = b;
             least =
                 λ c n b'.
-                let (x, i, k', s', r') = precedes-labelled f b' in
+                let (x, i, k', s', r') = precedes_labelled f b' in
                 subst (λ (y : ℕ). cell 𝓒 u ≤ y) i (least x (weight n) k' s' r');
           }

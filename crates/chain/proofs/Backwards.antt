@@ -33,7 +33,7 @@ use Rattle.chain.specs.Route.{Before, ChainTo}
 use Rattle.chain.specs.Charted.{Charted}
 use Rattle.chain.specs.Chain.{Journey, Walked, label_at, settled_at, LeadsTo, Lesser, Reached, Prior, LeadsAlong, cells_at, Linked}
 use Rattle.chain.proofs.Places.{trip, from_cell, to_cell, used_within}
-use Rattle.chain.proofs.Back.{not_start, adds_nearer, settled_used, settled_walk, some_labelled, before-labelled}
+use Rattle.chain.proofs.Back.{not_start, adds_nearer, settled_used, settled_walk, some_labelled, before_labelled}
 
 -- ---- the place before one
 -- Of the links of v below the j-th that lead to it, `best` is one with the least cell number; it is 0 where there is none.
@@ -83,11 +83,11 @@ module _ {C S E : List ℕ} {t : Trip} {W : List ℕ} {v : ℕ} where
           (some, subst (λ (x : ℕ). cell_at C t (r - 1) ≤ cell_at C t (link_at (chart C S E t W) v x - 1)) (sym e) s.second)
 
 -- what the code compares tells whether a link leads to v
-pub leads-tells :
+pub leads_tells :
     (C : List ℕ) (t : Trip) (W : List ℕ) (v link : ℕ) {settled near far a b leg : ℕ} → (link ≡ 0 → ⊥) → settled ≡ settled_at t W (link - 1) → (settled ≡ 0 → ⊥) →
     near ≡ label_at t W (link - 1) → far ≡ label_at t W v → a ≡ cell_at C t (link - 1) → b ≡ cell_at C t v → leg ≡ apart t.w a b →
     Tells (LeadsTo C t W v link) (eqb (near + leg) far)
-leads-tells C t W v link {settled} {near} {far} {a} {b} {leg} some s more n f qa qb q =
+leads_tells C t W v link {settled} {near} {far} {a} {b} {leg} some s more n f qa qb q =
     let q' : leg ≡ apart t.w (cell_at C t (link - 1)) (cell_at C t v) = rw (qa, qb) at q in
     record {
       yes = λ h. let e = eqb-true (near + leg) far h in record { some = omega arith; settled = omega arith; adds = omega arith };
@@ -164,7 +164,7 @@ module _ {a : Journey} {C S E : List ℕ} {t : Trip} {W : List ℕ} (k : Walked 
             settled = l.settled;
             nearer = omega arith;
             before =
-                before-labelled k.charted k.sound at_goal at_v no_further (best - 1) (label_at t W (best - 1) - 1) j s sum
+                before_labelled k.charted k.sound at_goal at_v no_further (best - 1) (label_at t W (best - 1) - 1) j s sum
                 (λ x y (h, m, z) c d.
                 let back : x + 1 - 1 ≡ x = omega arith in
                 let f = (b.least h m (subst (LeadsTo C t W v) (sym z) (leads_made x y c d))).1 in
@@ -194,13 +194,13 @@ module _ {a : Journey} {C : List ℕ} {t : Trip} {D : List ℕ} where
       (traced_set x y (omega arith) r)
 
   -- what leads to u, with these places behind it, is the chain to the goal
-  pub traced-chain :
+  pub traced_chain :
       {N : List ℕ} {u : ℕ} {rest ps : List ℕ} → ChainTo a.w a.h a.words a.start a.goal (cell_at C t u) ps →
       Traced a C t D N u rest →
       ChainTo a.w a.h a.words a.start a.goal (cell_at C t t.to) (ps ++ cells_at C t rest)
-  traced-chain {ps = ps} c there = rw (append-nil ps) c
-  traced-chain {ps = ps} c (on {v = v} {rest = rest} h e l n b r) =
-      rw append_assoc at (traced-chain (ChainTo.back n b c) r)
+  traced_chain {ps = ps} c there = rw (append-nil ps) c
+  traced_chain {ps = ps} c (on {v = v} {rest = rest} h e l n b r) =
+      rw append_assoc at (traced_chain (ChainTo.back n b c) r)
 
 -- Between the turns: the places behind v, and the length of what leads to v with that of the legs behind it is the shortest.
 pub record Tracing (a : Journey) (C : List ℕ) (t : Trip) (W W' : List ℕ) (v : ℕ) (l : Len) : Type 0 where
@@ -276,7 +276,7 @@ module _ {a : Journey} {C S E : List ℕ} {t : Trip} {W : List ℕ} (k : Walked 
         along = rw (o.others Label (λ h. omega arith)) (traced_along s.traced);
         chain =
             subst (λ (c : ℕ). ChainTo a.w a.h a.words a.start a.goal c (cells_at C t (t.from ∷ s.rest))) (to_cell k.charted)
-            (traced-chain first s.traced);
+            (traced_chain first s.traced);
         shortest = subst (λ (x : Len). Far a.w a.h a.words a.start a.goal x) same s.shortest;
       }
 
@@ -321,11 +321,11 @@ module _ (t : Trip) {W W' : List ℕ} (o : Only (t.k + 2) W Next W') where
       }
 
 -- A run of the search over a chart of the journey that has settled the goal is what the chain is found from.
-pub run-walked :
+pub run_walked :
     (a : Journey) {C S E : List ℕ} {t : Trip} {W : List ℕ} {budget r : ℕ} {W' : List ℕ} → Ready C S E t W →
     Charted a.w a.h a.words a.plan a.start a.goal (chart C S E t W) → Run C S E t W budget r W' →
     (labels_of (t.k + 2) W').settled t.to ≡ true →
     Walked a C S E t W'
-run-walked a {C} {S} {E} {t} ready ch run found =
+run_walked a {C} {S} {E} {t} ready ch run found =
     let e = chart_same C S E t run.left in
     record { ready = ready_kept ready run.left; charted = rw e ch; sound = rw e run.outcome.sound; found = found }

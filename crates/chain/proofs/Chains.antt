@@ -9,7 +9,7 @@ use Rattle.plan.specs.Plan.{Lists}
 use Rattle.settling.specs.Chains.{Chain, here, step, Reachable, Shortest}
 use Rattle.effort.specs.Effort.{Far}
 use Rattle.effort.specs.Net.{Joined, net_of, apart as weighs}
-use Rattle.effort.proofs.Bridge.{far_few, far-shortest, shortest-far}
+use Rattle.effort.proofs.Bridge.{far_few, far_shortest, shortest_far}
 use Rattle.places.specs.Places.{apart}
 use Rattle.places.specs.Chart.{Chart, cell, net}
 use Rattle.search.specs.Search.{Bounded}
@@ -70,11 +70,11 @@ module _ {w h : ℕ} {words : List ℕ} {p : Lists} {start goal : ℕ} {𝓒 : C
 
   -- A shortest chain weighs what the shortest walk to its place's cell does.
   pub shortest_walk : {v d : ℕ} → Shortest (net 𝓒) v d → (l : Len) × Far w h words start (cell 𝓒 v) l × (weight l ≡ d)
-  shortest_walk s = shortest-far w h words start goal (trip ch) (shortest_there s).1
+  shortest_walk s = shortest_far w h words start goal (trip ch) (shortest_there s).1
 
   -- and the other way round
   pub walk_shortest : {v : ℕ} {l : Len} → Used 𝓒 v → Far w h words start (cell 𝓒 v) l → Shortest (net 𝓒) v (weight l)
-  walk_shortest {v} a f = shortest_at a (far-shortest w h words start goal (trip ch) (cell_place ch v) f)
+  walk_shortest {v} a f = shortest_at a (far_shortest w h words start goal (trip ch) (cell_place ch v) f)
 
   -- Every shortest chain is so short that its length fits.
   pub bounded : Bounded 𝓒

@@ -56,18 +56,18 @@ module _ {w h : ℕ} {words : List ℕ} {p : Lists} (own : PlanOf w h words p) w
   row_ends u l = start_in walkers w h words p.corners own.links (suc u) l
 
   -- a neighbour is a turning point that is linked
-  pub neighbour-linked :
+  pub neighbour_linked :
       (u j : ℕ) → u < length p.corners → get_or p.starts u 0 ≤ j → j < get_or p.starts (suc u) 0 →
       In (get_or p.neighbours j 0) p.corners × LinkedCells walkers w h words (get_or p.corners u 0) (get_or p.neighbours j 0)
-  neighbour-linked u j l a b =
+  neighbour_linked u j l a b =
       picked_in (own.links.row u l) (get_or p.neighbours j 0)
       (part_in p.neighbours (get_or p.starts u 0) (get_or p.starts (suc u) 0) (own.links.rising u l) (row_ends u l) j a b)
 
   -- what is linked is a neighbour
-  pub linked-neighbour :
+  pub linked_neighbour :
       (u t : ℕ) → u < length p.corners → In t p.corners → LinkedCells walkers w h words (get_or p.corners u 0) t →
       (j : ℕ) × (get_or p.starts u 0 + j < get_or p.starts (suc u) 0) × (get_or p.neighbours (get_or p.starts u 0 + j) 0 ≡ t)
-  linked-neighbour u t l i k =
+  linked_neighbour u t l i k =
       let from : ℕ = get_or p.starts u 0 in
       let (j, a, b, e) = in_part p.neighbours from (get_or p.starts (suc u) 0) (own.links.rising u l) (row_ends u l) t (in_picked (own.links.row u l) t i k) in
       let back : from + (j - from) ≡ j = omega arith in
@@ -78,4 +78,4 @@ module _ {w h : ℕ} {words : List ℕ} {p : Lists} (own : PlanOf w h words p) w
   neighbour_corner j l =
       let e = own.links.last in
       let (u, a, b, c) = between (λ (i : ℕ). get_or p.starts i 0) (length p.corners) j own.links.first (omega arith) in
-      (neighbour-linked u j a b c).0
+      (neighbour_linked u j a b c).0

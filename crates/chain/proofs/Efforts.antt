@@ -12,26 +12,26 @@ use Rattle.settling.specs.Order.{NoLater}
 use Rattle.settling.specs.Counts.{Counts, below}
 use Rattle.settling.specs.Effort.{InReach}
 use Rattle.settling.specs.Labels.{Labels}
-use Rattle.settling.proofs.Instances.{nearest-no-later}
+use Rattle.settling.proofs.Instances.{nearest_no_later}
 use Rattle.settling.proofs.Tally.{counts_same}
 use Rattle.effort.specs.Effort.{PlaceCell, EffortFound, EffortLost}
 use Rattle.effort.specs.Net.{by_cell, net_of}
-use Rattle.effort.proofs.Bridge.{chain_place, shortest-far, reachable-iff, reachable-far, goal_place}
-use Rattle.effort.proofs.Search.{in-reach-iff}
+use Rattle.effort.proofs.Bridge.{chain_place, shortest_far, reachable_iff, reachable_far, goal_place}
+use Rattle.effort.proofs.Search.{in_reach_iff}
 use Rattle.places.specs.Chart.{Chart, cell, net, order}
 use Rattle.search.specs.Search.{Outcome}
 use Rattle.chain.specs.Charted.{Charted, Used}
-use Rattle.chain.proofs.Counting.{counts-onto}
+use Rattle.chain.proofs.Counting.{counts_onto}
 use Rattle.chain.proofs.Places.{trip, cell_place, to_used, to_cell, place_index, used_same, used_within}
 use Rattle.chain.proofs.Chains.{shortest_there, shortest_at, reachable_there, reachable_at}
 
 module _ {w h : ℕ} {words : List ℕ} {p : Lists} {start goal : ℕ} {𝓒 : Chart} (ch : Charted w h words p start goal 𝓒) where
   -- A property of places that is said alike by index and by cell counts alike.
-  pub counts-there :
+  pub counts_there :
       (P Q : ℕ → Type 0) {m : ℕ} → ((v : ℕ) → P v → Used 𝓒 v × Q (cell 𝓒 v)) → ((v : ℕ) → Used 𝓒 v → Q (cell 𝓒 v) → P v) →
       ((c : ℕ) → Q c → PlaceCell w h words start goal c) → Counts P (below (𝓒.trip.k + 2)) m → Counts Q (below (w * h)) m
-  counts-there P Q there back places =
-      counts-onto Q (cell 𝓒) (𝓒.trip.k + 2) (w * h)
+  counts_there P Q there back places =
+      counts_onto Q (cell 𝓒) (𝓒.trip.k + 2) (w * h)
       (λ i j l k a b e. used_same ch i j (there i a).0 (there j b).0 e)
       (λ i l a. ((cell_place ch i).inside, (there i a).1))
       (λ c l q.
@@ -41,16 +41,16 @@ module _ {w h : ℕ} {words : List ℕ} {p : Lists} {start goal : ℕ} {𝓒 : C
   -- To rank no later is the same by index and by cell.
   pub rank_same : (d e u v : ℕ) → NoLater (order 𝓒) d u e v ↔ NoLater by_cell d (cell 𝓒 u) e (cell 𝓒 v)
   rank_same d e u v = (
-    λ l. (nearest-no-later wholes (λ c. c) d e (cell 𝓒 u) (cell 𝓒 v)).1 ((nearest-no-later wholes (cell 𝓒) d e u v).0 l),
-    λ l. (nearest-no-later wholes (cell 𝓒) d e u v).1 ((nearest-no-later wholes (λ c. c) d e (cell 𝓒 u) (cell 𝓒 v)).0 l),
+    λ l. (nearest_no_later wholes (λ c. c) d e (cell 𝓒 u) (cell 𝓒 v)).1 ((nearest_no_later wholes (cell 𝓒) d e u v).0 l),
+    λ l. (nearest_no_later wholes (cell 𝓒) d e u v).1 ((nearest_no_later wholes (λ c. c) d e (cell 𝓒 u) (cell 𝓒 v)).0 l),
   )
 
   -- The places in reach of the goal are as many by index as by cell.
-  reach-counts :
+  reach_counts :
       (g m : ℕ) → Counts (InReach (net 𝓒) (order 𝓒) 𝓒.trip.to g) (below (𝓒.trip.k + 2)) m →
       Counts (InReach (net_of w h words start goal) by_cell goal g) (below (w * h)) m
-  reach-counts g m =
-      counts-there (InReach (net 𝓒) (order 𝓒) 𝓒.trip.to g) (InReach (net_of w h words start goal) by_cell goal g)
+  reach_counts g m =
+      counts_there (InReach (net 𝓒) (order 𝓒) 𝓒.trip.to g) (InReach (net_of w h words start goal) by_cell goal g)
       (λ v (d, s, l).
       let (a, t) = shortest_there ch s in
       (a, (d, t, subst (λ (x : ℕ). NoLater by_cell d (cell 𝓒 v) g x) (to_cell ch) ((rank_same d g v 𝓒.trip.to).0 l))))
@@ -65,24 +65,24 @@ module _ {w h : ℕ} {words : List ℕ} {p : Lists} {start goal : ℕ} {𝓒 : C
   effort_at_goal g r s c =
       let t : Shortest (net_of w h words start goal) goal g =
       subst (λ (x : ℕ). Shortest (net_of w h words start goal) x g) (to_cell ch) (shortest_there ch s).1 in
-      let (far, f, q) = shortest-far w h words start goal (trip ch) t in
+      let (far, f, q) = shortest_far w h words start goal (trip ch) t in
       let count : Counts (InReach (net_of w h words start goal) by_cell goal (weight far)) (below (w * h)) r =
-      subst (λ (x : ℕ). Counts (InReach (net_of w h words start goal) by_cell goal x) (below (w * h)) r) (sym q) (reach-counts g r c) in
-      (record { far = far; shortest = f; counted = counts_same (in-reach-iff w h words start goal (trip ch) far f) count }, q)
+      subst (λ (x : ℕ). Counts (InReach (net_of w h words start goal) by_cell goal x) (below (w * h)) r) (sym q) (reach_counts g r c) in
+      (record { far = far; shortest = f; counted = counts_same (in_reach_iff w h words start goal (trip ch) far f) count }, q)
 
   -- Where the goal cannot be reached, what was counted as reached is the effort.
-  pub effort-without :
+  pub effort_without :
       (r : ℕ) → (Reachable (net 𝓒) 𝓒.trip.to → ⊥) → Counts (Reachable (net 𝓒)) (below (𝓒.trip.k + 2)) r → EffortLost w h words start goal r
-  effort-without r lost c = record {
+  effort_without r lost c = record {
     none =
         λ ds a.
         lost
         (reachable_at ch (to_used ch)
         (subst (Reachable (net_of w h words start goal)) (sym (to_cell ch))
-        ((reachable-iff w h words start goal (trip ch) goal).1 (goal_place w h words start goal (trip ch), (ds, a)))));
+        ((reachable_iff w h words start goal (trip ch) goal).1 (goal_place w h words start goal (trip ch), (ds, a)))));
     counted =
-        counts_same (reachable-far w h words start goal (trip ch))
-        (counts-there (Reachable (net 𝓒)) (Reachable (net_of w h words start goal)) (λ v. reachable_there ch) (λ v. reachable_at ch)
+        counts_same (reachable_far w h words start goal (trip ch))
+        (counts_there (Reachable (net 𝓒)) (Reachable (net_of w h words start goal)) (λ v. reachable_there ch) (λ v. reachable_at ch)
         (λ c k. chain_place w h words start goal (trip ch) k.1) c);
   }
 
@@ -97,4 +97,4 @@ module _ {w h : ℕ} {words : List ℕ} {p : Lists} {start goal : ℕ} {𝓒 : C
 
     -- it is not, and the budget was enough
     pub outcome_lost : 𝓢.settled 𝓒.trip.to ≡ false → (r < budget) ⊎ (𝓒.trip.k + 2 ≤ budget) → EffortLost w h words start goal r
-    outcome_lost f enough = let (n, c) = out.lost f enough in effort-without r n c
+    outcome_lost f enough = let (n, c) = out.lost f enough in effort_without r n c

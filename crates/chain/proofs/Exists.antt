@@ -24,7 +24,7 @@ use Rattle.effort.specs.Effort.{PlaceCell, Far}
 use Rattle.effort.specs.Net.{Startable, Joined, Precedes}
 use Rattle.ground.proofs.Numbers.{within}
 use Rattle.effort.proofs.Bridge.{goal_place}
-use Rattle.effort.proofs.Before.{place-before, before_nearer}
+use Rattle.effort.proofs.Before.{place_before, before_nearer}
 use Rattle.line.specs.Cells.{after, legs}
 use Rattle.chain.specs.Route.{LineClear, Before, ChainTo, here, back, RouteOf}
 
@@ -115,11 +115,11 @@ module _ (w h : ℕ) (words : List ℕ) (start goal : ℕ) where
 
 module _ (w h : ℕ) (words : List ℕ) (start goal : ℕ) (trip : Startable w h words start goal) where
   -- A place that is reached, other than the start, has a place before it, which is nearer.
-  pub before-exists :
+  pub before_exists :
       {v : ℕ} {l : Len} → PlaceCell w h words start goal v → v ≢ start → Far w h words start v l →
       (u : ℕ) × (b : Before w h words start goal v u) × (b.nearer ≺ l)
-  before-exists {v} {l} p other f =
-      let (u, m, b) = place-before w h words start goal trip p other f in
+  before_exists {v} {l} p other f =
+      let (u, m, b) = place_before w h words start goal trip p other f in
       let best = least_of (λ t. (k : Len) × Precedes w h words start goal v l t k) (precedes_dec w h words start goal v l) u (m, b) in (
         best.number,
         record {
@@ -133,10 +133,10 @@ module _ (w h : ℕ) (words : List ℕ) (start goal : ℕ) (trip : Startable w h
       )
 
   -- A place that is reached has a chain.
-  pub chain-exists :
+  pub chain_exists :
       {v : ℕ} {l : Len} → PlaceCell w h words start goal v → Far w h words start v l →
       (places : List ℕ) × ChainTo w h words start goal v places
-  chain-exists {v} {l} p f = ≺_induction Reached (λ y ih v p f. by y ih v p f (ℕ_discrete v start)) l v p f
+  chain_exists {v} {l} p f = ≺_induction Reached (λ y ih v p f. by y ih v p f (ℕ_discrete v start)) l v p f
     where
       Reached : Len → Type 0
       Reached l =
@@ -148,7 +148,7 @@ module _ (w h : ℕ) (words : List ℕ) (start goal : ℕ) (trip : Startable w h
           (places : List ℕ) × ChainTo w h words start goal v places
       by y ih v p f (yes e) = (start ∷ [], subst (λ (x : ℕ). ChainTo w h words start goal x (start ∷ [])) (sym e) here)
       by y ih v p f (no k) =
-          let (u, b, less) = before-exists p k f in
+          let (u, b, less) = before_exists p k f in
           let (places, c) = ih b.nearer less u b.precedes.joined.from b.precedes.far in
           (places ++ (v ∷ []), back k b c)
 
@@ -159,5 +159,5 @@ module _ (w h : ℕ) (words : List ℕ) (start goal : ℕ) (trip : Startable w h
       by : Dec (LineClear w h words start goal) → (cells : List ℕ) × RouteOf w h words start goal cells
       by (yes clear) = (start ∷ after w (place_of w start) (line (place_of w start) (place_of w goal)), inl (clear, refl))
       by (no barred) =
-          let (places, c) = chain-exists (goal_place w h words start goal trip) f in
+          let (places, c) = chain_exists (goal_place w h words start goal trip) f in
           (start ∷ legs w places, inr (record { barred = barred; places = places; chain = c; walked = refl }))

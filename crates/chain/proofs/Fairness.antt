@@ -17,7 +17,7 @@ use Rattle.places.specs.Places.{index_of, Ascending}
 use Rattle.places.specs.Chart.{Chart, Fair, cell}
 use Rattle.chain.specs.Charted.{Charted}
 use Rattle.chain.proofs.Entries.{in_index}
-use Rattle.chain.proofs.Corners.{corners_ascend, neighbour-linked, neighbour_corner}
+use Rattle.chain.proofs.Corners.{corners_ascend, neighbour_linked, neighbour_corner}
 use Rattle.chain.proofs.Places.{cell_corner, cell_place, corner_within, from_known, to_known, corner_no_start, corner_no_goal, start_own, goal_own}
 
 module _ {w h : ℕ} {words : List ℕ} {p : Lists} {start goal : ℕ} {𝓒 : Chart} (ch : Charted w h words p start goal 𝓒) where
@@ -50,7 +50,7 @@ module _ {w h : ℕ} {words : List ℕ} {p : Lists} {start goal : ℕ} {𝓒 : C
       let a' : get_or p.starts u 0 ≤ j = rw ch.starts at a in
       let b' : j < get_or p.starts (suc u) 0 = rw (ch.starts, add-one) at b in
       let e' : get_or p.neighbours j 0 ≡ get_or p.corners u 0 = rw (ch.neighbours, ch.corners) at e in
-      (neighbour-linked ch.fits.own u j (corner_within ch l) a' b').1.two (sym (ap (place_of w) e'))
+      (neighbour_linked ch.fits.own u j (corner_within ch l) a' b').1.two (sym (ap (place_of w) e'))
 
   -- The chart is fair.
   pub fair : Fair 𝓒

@@ -27,18 +27,18 @@ use Rattle.line.proofs.Legs.{after_length, after_append}
 use Rattle.chain.specs.Route.{ChainTo, here, back, RouteOf, cells_of}
 
 -- one place more in a chain adds the leg to it
-pub legs-snoc :
+pub legs_snoc :
     (w : ℕ) (front : List ℕ) (u v : ℕ) →
     legs w ((front ++ (u ∷ [])) ++ (v ∷ []))
     ≡ legs w (front ++ (u ∷ [])) ++ after w (place_of w u) (line (place_of w u) (place_of w v))
-legs-snoc w [] u v = append-nil (after w (place_of w u) (line (place_of w u) (place_of w v)))
-legs-snoc w (a ∷ []) u v =
+legs_snoc w [] u v = append-nil (after w (place_of w u) (line (place_of w u) (place_of w v)))
+legs_snoc w (a ∷ []) u v =
     let leg = after w (place_of w a) (line (place_of w a) (place_of w u)) in
-    ap (λ (cs : List ℕ). leg ++ cs) (legs-snoc w [] u v)
+    ap (λ (cs : List ℕ). leg ++ cs) (legs_snoc w [] u v)
     ∙ sym (append_assoc leg [] (after w (place_of w u) (line (place_of w u) (place_of w v))))
-legs-snoc w (a ∷ b ∷ front) u v =
+legs_snoc w (a ∷ b ∷ front) u v =
     let leg = after w (place_of w a) (line (place_of w a) (place_of w b)) in
-    ap (λ (cs : List ℕ). leg ++ cs) (legs-snoc w (b ∷ front) u v)
+    ap (λ (cs : List ℕ). leg ++ cs) (legs_snoc w (b ∷ front) u v)
     ∙ sym (append_assoc leg (legs w (b ∷ (front ++ (u ∷ [])))) (after w (place_of w u) (line (place_of w u) (place_of w v))))
 
 -- a walk comes last to the cell at its end
@@ -68,15 +68,15 @@ module _ (w h : ℕ) (words : List ℕ) (start goal : ℕ) (trip : Startable w h
   start_near f = shortest_unique (record { some = ([], (trip.start_free, refl), refl); least = λ ds a. 𝟎_least (len ds) }) f
 
   -- The legs of a chain to v are a walk to v of the shortest length.
-  pub chain-legal :
+  pub chain_legal :
       {v : ℕ} {places : List ℕ} → ChainTo w h words start goal v places → {l : Len} → Far w h words start v l →
       (ds : List Dir)
       × Walk walkers (board w h words) (place_of w start) (place_of w v) ds
       × (len ds ≡ l)
       × (legs w places ≡ after w (place_of w start) ds)
-  chain-legal here f = ([], (trip.start_free, refl), start_near f, refl)
-  chain-legal (back {v = v} {u = u} {places = places} n b c) {l} f =
-      let (ds, a, e, k) = chain-legal c b.precedes.far in
+  chain_legal here f = ([], (trip.start_free, refl), start_near f, refl)
+  chain_legal (back {v = v} {u = u} {places = places} n b c) {l} f =
+      let (ds, a, e, k) = chain_legal c b.precedes.far in
       let leg = line (place_of w u) (place_of w v) in
       let (d, q) = direct_line (within w h words).padded (place_of w u) (place_of w v) b.precedes.joined.direct in
       let both = walk_append walkers (board w h words) (place_of w start) (place_of w u) (place_of w v) ds leg a d in
@@ -85,7 +85,7 @@ module _ (w h : ℕ) (words : List ℕ) (start goal : ℕ) (trip : Startable w h
         both.0,
         both.1 ∙ ap (λ (x : Len). x ⊕ len leg) e ∙ ap (λ (x : Len). b.nearer ⊕ x) q ∙ b.precedes.sum ∙ shortest_unique b.shortest f,
         ap (λ (ps : List ℕ). legs w (ps ++ (v ∷ []))) whole
-            ∙ legs-snoc w front u v
+            ∙ legs_snoc w front u v
             ∙ ap (λ (ps : List ℕ). legs w ps ++ after w (place_of w u) leg) (sym whole)
             ∙ ap (λ (cs : List ℕ). cs ++ after w (place_of w u) leg) k
             ∙ ap (λ (p : Place). after w (place_of w start) ds ++ after w p leg) (sym a.1)
@@ -93,34 +93,34 @@ module _ (w h : ℕ) (words : List ℕ) (start goal : ℕ) (trip : Startable w h
       )
 
   -- The route is legal, ends at the goal and has the shortest length.
-  pub route-legal :
+  pub route_legal :
       {cells : List ℕ} → RouteOf w h words start goal cells → (l : Len) → Far w h words start goal l →
       (ds : List Dir)
       × Walk walkers (board w h words) (place_of w start) (place_of w goal) ds
       × (len ds ≡ l)
       × (cells ≡ start ∷ after w (place_of w start) ds)
-  route-legal (inl (clear, e)) l f =
+  route_legal (inl (clear, e)) l f =
       let s = place_of w start in
       let t = place_of w goal in
       (line s t, (clear, line_end s t), line_len s t ∙ shortest_unique (line_shortest (board w h words) s t clear) f, e)
-  route-legal (inr r) l f =
-      let (ds, a, e, k) = chain-legal r.chain f in
+  route_legal (inr r) l f =
+      let (ds, a, e, k) = chain_legal r.chain f in
       (ds, a, e, r.walked ∙ ap (λ (cs : List ℕ). start ∷ cs) k)
 
   -- It has as many cells as its length says.
   pub route_cells_lem : {cells : List ℕ} → RouteOf w h words start goal cells → (l : Len) → Far w h words start goal l → length cells ≡ cells_of l
   route_cells_lem r l f =
-      let (ds, a, e, k) = route-legal r l f in
+      let (ds, a, e, k) = route_legal r l f in
       ap length k
       ∙ ap suc (after_length w (place_of w start) ds ∙ sym (counts ds).steps ∙ ap (λ (x : Len). x.straight + x.diagonal) e)
       ∙ omega arith
 
   -- It lists the goal last.
-  pub route-ends :
+  pub route_ends :
       {cells : List ℕ} → RouteOf w h words start goal cells → (l : Len) → Far w h words start goal l →
       (front : List ℕ) × (cells ≡ front ++ (goal ∷ []))
-  route-ends r l f =
-      let (ds, a, e, k) = route-legal r l f in
+  route_ends r l f =
+      let (ds, a, e, k) = route_legal r l f in
       let (front, q) = after_last w (place_of w start) ds in (
         front,
         k
@@ -131,9 +131,9 @@ module _ (w h : ℕ) (words : List ℕ) (start goal : ℕ) (trip : Startable w h
       )
 
   -- It lists cells of the floor only.
-  pub route-inside :
+  pub route_inside :
       {cells : List ℕ} → RouteOf w h words start goal cells → (l : Len) → Far w h words start goal l → (c : ℕ) → In c cells → c < w * h
-  route-inside r l f c i =
-      let (ds, a, e, k) = route-legal r l f in
+  route_inside r l f c i =
+      let (ds, a, e, k) = route_legal r l f in
       ⊎_elim (λ q. subst (λ (x : ℕ). x < w * h) (sym q) trip.start_inside) (after_inside w h words (place_of w start) ds a.0 c)
       (subst (In c) k i)

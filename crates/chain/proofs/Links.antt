@@ -22,7 +22,7 @@ use Rattle.places.proofs.Cells.{index_at, index_of_entry}
 use Rattle.places.proofs.Links.{flag_some, corner_arc, corner_start, corner_goal, link_corner, link_start, link_goal, count_end, count_corner}
 use Rattle.chain.specs.Charted.{DirectCells, Charted, Used}
 use Rattle.chain.proofs.Entries.{in_index}
-use Rattle.chain.proofs.Corners.{corners_ascend, neighbour-linked, linked-neighbour}
+use Rattle.chain.proofs.Corners.{corners_ascend, neighbour_linked, linked_neighbour}
 use Rattle.chain.proofs.Places.{stands, cell_corner, cell_start, cell_beyond, cell_goal, corner_within, corner_turns, cell_place, start_own, goal_own, corner_no_start, corner_no_goal}
 
 -- a flag that is set leads to its place
@@ -112,15 +112,15 @@ module _ {w h : ℕ} {words : List ℕ} {p : Lists} {start goal : ℕ} {𝓒 : C
   arcs_are u = rw (ch.starts, add-one)
 
   -- a listed neighbour is a corner that is linked
-  neighbour-there :
+  neighbour_there :
       (u v : ℕ) → u < 𝓒.trip.k → (j : ℕ) → j < arcs 𝓒 u →
       index_of 𝓒.corners (get_or 𝓒.neighbours (get_or 𝓒.starts u 0 + j) 0) ≡ v →
       (v < 𝓒.trip.k) × LinkedCells walkers w h words (cell 𝓒 u) (cell 𝓒 v)
-  neighbour-there u v l j m e =
+  neighbour_there u v l j m e =
       let t : ℕ = get_or p.neighbours (get_or p.starts u 0 + j) 0 in
       let e' : index_of p.corners t ≡ v = rw (ch.corners, ch.neighbours, ch.starts) at e in
       let a = arcs_are u in
-      let (i, k) = neighbour-linked ch.fits.own u (get_or p.starts u 0 + j) (corner_within ch l) (omega arith) (omega arith) in
+      let (i, k) = neighbour_linked ch.fits.own u (get_or p.starts u 0 + j) (corner_within ch l) (omega arith) (omega arith) in
       let n : index_of p.corners t < length p.corners = in_index p.corners t i in
       let inside : v < 𝓒.trip.k = let c = ch.count in omega arith in
       let there : cell 𝓒 v ≡ t = cell_corner ch v inside ∙ ap (λ (x : ℕ). get_or p.corners x 0) (sym e') ∙ index_at p.corners t n in
@@ -133,12 +133,12 @@ module _ {w h : ℕ} {words : List ℕ} {p : Lists} {start goal : ℕ} {𝓒 : C
   listed u j v e = rw (ch.corners, ch.neighbours, ch.starts) e
 
   -- and such a corner is listed
-  there-neighbour :
+  there_neighbour :
       (u v : ℕ) → u < 𝓒.trip.k → v < 𝓒.trip.k → LinkedCells walkers w h words (cell 𝓒 u) (cell 𝓒 v) →
       (j : ℕ) × (j < arcs 𝓒 u) × (index_of 𝓒.corners (get_or 𝓒.neighbours (get_or 𝓒.starts u 0 + j) 0) ≡ v)
-  there-neighbour u v l m k =
+  there_neighbour u v l m k =
       let (j, a, e) =
-      linked-neighbour ch.fits.own u (get_or p.corners v 0) (corner_within ch l) (at_in p.corners v (corner_within ch m))
+      linked_neighbour ch.fits.own u (get_or p.corners v 0) (corner_within ch l) (at_in p.corners v (corner_within ch m))
       (subst₂ (λ (x y : ℕ). LinkedCells walkers w h words x y) (cell_corner ch u l) (cell_corner ch v m) k) in
       let b = arcs_are u in (
         j,
@@ -166,16 +166,16 @@ module _ {w h : ℕ} {words : List ℕ} {p : Lists} {start goal : ℕ} {𝓒 : C
       (direct_turned w h words (cell 𝓒 v) (cell 𝓒 u) (rw (e, cell_corner ch u l) d))
 
   -- what is joined to a start with a place of its own has its flag
-  joined-start :
+  joined_start :
       (u v : ℕ) → u < 𝓒.trip.k → cell 𝓒 v ≡ start → 𝓒.trip.from ≡ 𝓒.trip.k → DirectCells w h words (cell 𝓒 v) (cell 𝓒 u) →
       0 < get_or 𝓒.by_start u 0
-  joined-start u v l e own d = (ch.start_flags u l).1 (start_own ch own, rw (e, cell_corner ch u l) at d)
+  joined_start u v l e own d = (ch.start_flags u l).1 (start_own ch own, rw (e, cell_corner ch u l) at d)
 
   -- and so for the goal
-  joined-goal :
+  joined_goal :
       (u v : ℕ) → u < 𝓒.trip.k → cell 𝓒 v ≡ goal → 𝓒.trip.to ≡ 𝓒.trip.k + 1 → DirectCells w h words (cell 𝓒 v) (cell 𝓒 u) →
       0 < get_or 𝓒.by_goal u 0
-  joined-goal u v l e own d = (ch.goal_flags u l).1 (goal_own ch own, rw (e, cell_corner ch u l) at d)
+  joined_goal u v l e own d = (ch.goal_flags u l).1 (goal_own ch own, rw (e, cell_corner ch u l) at d)
 
   -- start and goal are not direct
   pub never_direct : ¬ (DirectCells w h words start goal)
@@ -187,7 +187,7 @@ module _ {w h : ℕ} {words : List ℕ} {p : Lists} {start goal : ℕ} {𝓒 : C
     where
       from_corner : u < 𝓒.trip.k → CornerLinks 𝓒 u v → Used 𝓒 v × Joined w h words start goal (cell 𝓒 u) (cell 𝓒 v)
       from_corner l (inl (j, a, e)) =
-          let (m, i) = neighbour-there u v l j a e in
+          let (m, i) = neighbour_there u v l j a e in
           (inl m, joins u v (λ q. i.two (ap (place_of w) q)) i.direct)
       from_corner l (inr (inl (e, f))) =
           let own = ch.from_other ((ch.start_flags u l).0 f).0 in
@@ -208,23 +208,23 @@ module _ {w h : ℕ} {words : List ℕ} {p : Lists} {start goal : ℕ} {𝓒 : C
   -- Two places that are joined are linked in the chart.
   pub link_back : (u v : ℕ) → Used 𝓒 u → Used 𝓒 v → Joined w h words start goal (cell 𝓒 u) (cell 𝓒 v) → (net 𝓒).Link u v
   link_back u v (inl l) (inl m) k =
-      links_corner 𝓒 u v l (inl (there-neighbour u v l m (record {
+      links_corner 𝓒 u v l (inl (there_neighbour u v l m (record {
         from = corner_turns ch u l;
         to = corner_turns ch v m;
         two = λ q. k.two (same_cell w (cell 𝓒 u) (cell 𝓒 v) q);
         direct = k.direct;
       })))
   link_back u v (inl l) (inr (inl (e, own))) k =
-      links_corner 𝓒 u v l (inr (inl (e, joined-start u v l (ap (cell 𝓒) e ∙ cell_start ch) own (joined_turned k).direct)))
+      links_corner 𝓒 u v l (inr (inl (e, joined_start u v l (ap (cell 𝓒) e ∙ cell_start ch) own (joined_turned k).direct)))
   link_back u v (inl l) (inr (inr (e, own))) k =
-      links_corner 𝓒 u v l (inr (inr (e, joined-goal u v l (ap (cell 𝓒) e ∙ cell_goal ch) own (joined_turned k).direct)))
+      links_corner 𝓒 u v l (inr (inr (e, joined_goal u v l (ap (cell 𝓒) e ∙ cell_goal ch) own (joined_turned k).direct)))
   link_back u v (inr (inl (e, own))) (inl m) k =
-      subst (λ (x : ℕ). (net 𝓒).Link x v) (sym e) (links_start 𝓒 v m (joined-start v u m (ap (cell 𝓒) e ∙ cell_start ch) own k.direct))
+      subst (λ (x : ℕ). (net 𝓒).Link x v) (sym e) (links_start 𝓒 v m (joined_start v u m (ap (cell 𝓒) e ∙ cell_start ch) own k.direct))
   link_back u v (inr (inl (e, own))) (inr (inl (i, o))) k = absurd (k.two (ap (cell 𝓒) (e ∙ sym i)))
   link_back u v (inr (inl (e, own))) (inr (inr (i, o))) k =
       absurd (never_direct (subst₂ (λ (x y : ℕ). DirectCells w h words x y) (ap (cell 𝓒) e ∙ cell_start ch) (ap (cell 𝓒) i ∙ cell_goal ch) k.direct))
   link_back u v (inr (inr (e, own))) (inl m) k =
-      links_goal 𝓒 u v (omega arith) m (joined-goal v u m (ap (cell 𝓒) e ∙ cell_goal ch) own k.direct)
+      links_goal 𝓒 u v (omega arith) m (joined_goal v u m (ap (cell 𝓒) e ∙ cell_goal ch) own k.direct)
   link_back u v (inr (inr (e, own))) (inr (inl (i, o))) k =
       absurd
       (never_direct

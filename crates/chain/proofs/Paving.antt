@@ -19,7 +19,7 @@ use Rattle.chain.specs.Route.{RouteOf, cells_of}
 use Rattle.chain.specs.Chain.{Journey, Walked, LeadsAlong, there, on, cells_at, Linked, Paved}
 use Rattle.chain.proofs.Legal.{route_cells_lem}
 use Rattle.line.proofs.Legs.{line_cells, legs_next}
-use Rattle.line.proofs.Runs.{cell_of}
+use Rattle.line.proofs.Runs.{cell_of_lem}
 use Rattle.chain.proofs.Places.{trip, cell_place}
 
 -- ---- along the column
@@ -35,9 +35,9 @@ module _ {D N : List ℕ} {to : ℕ} where
   along_head (on {rest = rest} h e l r) = (rest, refl)
 
   -- at its end it is at an end
-  along_end : {rest : List ℕ} → LeadsAlong D N to to rest → rest ≡ to ∷ []
-  along_end there = refl
-  along_end (on h e l r) = let m = along_low r in absurd (omega arith)
+  along_end : {v : ℕ} {rest : List ℕ} → v ≡ to → LeadsAlong D N to v rest → rest ≡ v ∷ []
+  along_end e there = refl
+  along_end {v} e (on h q l r) = let m = along_low r in let z = ap (λ (i : ℕ). get_or D i 0) e in absurd (omega arith)
 
   -- elsewhere the column has an entry
   pub along_entry : {v : ℕ} {rest : List ℕ} → v ≢ to → LeadsAlong D N to v rest → (v < length N) × (0 < get_or N v 0)
@@ -83,7 +83,9 @@ module _ {C : List ℕ} {t : Trip} {W places : List ℕ} where
           let (l, (tail, e, r)) = along_next u other entry p.along in
           let s = place_of t.w (cell_at C t v) in
           let d = place_of t.w (cell_at C t u) in
-          let q = ap (λ (ps : List ℕ). length (legs t.w (cells_at C t ps))) e ∙ length-append (after t.w s (line s d)) (legs t.w (cell_at C t u ∷ cells_at C t tail)) in
+          let q =
+          ap (λ (ps : List ℕ). length (legs t.w (cells_at C t ps))) e
+          ∙ length-append (after t.w s (line s d)) (legs t.w (cell_at C t u ∷ cells_at C t tail)) in
           let m = line_cells t.w s d in
           let z = p.left in
           omega arith
@@ -96,7 +98,9 @@ module _ {C : List ℕ} {t : Trip} {W places : List ℕ} where
           let (l, (tail, e, along)) = along_next u other entry p.along in
           let s = place_of t.w (cell_at C t v) in
           let d = place_of t.w (cell_at C t u) in
-          let q = ap (λ (ps : List ℕ). length (legs t.w (cells_at C t ps))) e ∙ length-append (after t.w s (line s d)) (legs t.w (cell_at C t u ∷ cells_at C t tail)) in
+          let q =
+          ap (λ (ps : List ℕ). length (legs t.w (cells_at C t ps))) e
+          ∙ length-append (after t.w s (line s d)) (legs t.w (cell_at C t u ∷ cells_at C t tail)) in
           let m = line_cells t.w s d in
           let n = done.next in
           let z = p.left in
@@ -114,9 +118,7 @@ module _ {C : List ℕ} {t : Trip} {W places : List ℕ} where
     -- at the goal the list is as it has to be
     pub paving_done : v ≡ t.to → route ≡ take 1 route₀ ++ (legs t.w (cells_at C t places) ++ drop (size C t places) route₀)
     paving_done e =
-        let a : LeadsAlong (column_of (t.k + 2) W Label) (column_of (t.k + 2) W Next) t.to t.to p.rest =
-        subst (λ (i : ℕ). LeadsAlong (column_of (t.k + 2) W Label) (column_of (t.k + 2) W Next) t.to i p.rest) e p.along in
-        let q : legs t.w (cells_at C t p.rest) ≡ [] = ap (λ (ps : List ℕ). legs t.w (cells_at C t ps)) (along_end a) in
+        let q : legs t.w (cells_at C t p.rest) ≡ [] = ap (λ (ps : List ℕ). legs t.w (cells_at C t ps)) (along_end e p.along) in
         let m : next ≡ size C t places = let z = p.left in let y = ap length q in omega arith in
         sym (take-append-drop (size C t places) route)
         ∙ ap (λ (n : ℕ). take n route ++ drop (size C t places) route) (sym m)
@@ -134,9 +136,9 @@ start_written C t places entry some =
 -- ---- what the search and the chain give
 module _ {a : Journey} {C S E : List ℕ} {t : Trip} {W : List ℕ} (k : Walked a C S E t W) {r : Length} (l : Linked a C t W r) where
   -- the cells written along the chain are the route
-  pub linked-route :
+  pub linked_route :
       RouteOf a.w a.h a.words a.start a.goal (t.start ∷ legs t.w (cells_at C t l.places))
-  linked-route =
+  linked_route =
       subst (λ (x : ℕ). RouteOf a.w a.h a.words a.start a.goal (x ∷ legs t.w (cells_at C t l.places))) (sym k.charted.start_cell)
       (subst (λ (x : ℕ). RouteOf a.w a.h a.words a.start a.goal (a.start ∷ legs x (cells_at C t l.places))) (sym k.charted.width)
       (inr (record { barred = k.charted.barred; places = cells_at C t l.places; chain = l.chain; walked = refl })))
@@ -144,7 +146,7 @@ module _ {a : Journey} {C S E : List ℕ} {t : Trip} {W : List ℕ} (k : Walked 
   -- and a list with room for the length's cells is enough for it
   pub linked_paved : (room : ℕ) → cells_of (len_of r) ≤ room → Paved C t W room l.places
   linked_paved room fits =
-      let many = route_cells_lem a.w a.h a.words a.start a.goal (trip k.charted) linked-route (len_of r) l.shortest in
+      let many = route_cells_lem a.w a.h a.words a.start a.goal (trip k.charted) linked_route (len_of r) l.shortest in
       record {
         corners = k.ready.fair.corners;
         few = k.ready.fair.few;
@@ -157,6 +159,6 @@ module _ {a : Journey} {C S E : List ℕ} {t : Trip} {W : List ℕ} (k : Walked 
             omega arith;
         cells = λ i.
             subst (λ (x : ℕ). Cell x (cell_at C t i % x) (cell_at C t i / x)) (sym k.charted.width)
-            (cell_of a.w a.h (cell_at C t i) (trip k.charted).few_cells (cell_place k.charted i).inside);
+            (cell_of_lem a.w a.h (cell_at C t i) (trip k.charted).few_cells (cell_place k.charted i).inside);
         room = omega arith;
       }

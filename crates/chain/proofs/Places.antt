@@ -15,7 +15,7 @@ use Rattle.plan.specs.Plan.{Lists}
 use Rattle.corners.specs.Corners.{corner_cell}
 use Rattle.effort.specs.Effort.{PlaceCell}
 use Rattle.effort.specs.Net.{Startable, apart as weighs}
-use Rattle.effort.proofs.Bridge.{trip-of, start_place, goal_place}
+use Rattle.effort.proofs.Bridge.{trip_of, start_place, goal_place}
 use Rattle.places.specs.Places.{index_of, cell_at, apart}
 use Rattle.places.specs.Chart.{Chart, cell}
 use Rattle.places.proofs.Cells.{index_at, ascending_once}
@@ -34,7 +34,7 @@ stands i k = ⊎_elim (λ (l : k ≤ i). ⊎_elim (λ (m : i ≤ k). inr (inl (o
 module _ {w h : ℕ} {words : List ℕ} {p : Lists} {start goal : ℕ} {𝓒 : Chart} (ch : Charted w h words p start goal 𝓒) where
   -- what a trip is asked for
   pub trip : Startable w h words start goal
-  trip = trip-of ch.floor ch.start_inside ch.goal_inside ch.start_free
+  trip = trip_of ch.floor ch.start_inside ch.goal_inside ch.start_free
 
   -- the cell of a corner's index
   pub cell_corner : (i : ℕ) → i < 𝓒.trip.k → cell 𝓒 i ≡ get_or p.corners i 0

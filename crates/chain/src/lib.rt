@@ -1,5 +1,7 @@
 // The chain of places back from a settled goal, and the route along it. Links and the column NEXT hold one more than a place, and 0 for
 // none.
+#![tactic(auto)]
+
 ghost use Rattle.std.specs.Prelude.{◌≡◌, ◌≢◌, List, ◌∷◌, ℕ, ◌+◌, ◌-◌, ◌<◌, ◌≤◌, ◌%◌, ◌/◌, length};
 ghost use Rattle.lengths.specs.Lengths.{len_of};
 ghost use Rattle.floor.specs.Refusals.{Tells};

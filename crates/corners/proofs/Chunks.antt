@@ -24,7 +24,7 @@ row_ends w h c n l m =
 
 -- and so does a chunk
 pub chunk_ends : {w h c n : ℕ} → Chunk w h c n → c + n ≤ w * h
-chunk_ends {w} {h} {c} {n} k = row_ends w h c n k.inside k.in_row
+chunk_ends {w} {h} {c} {n} k = row_ends w h c n k.inside k.in_one_row
 
 -- the column of a cell in the row of another
 column_on : (w c i : ℕ) → c % w + i < w → (c + i) % w ≡ c % w + i
@@ -55,7 +55,7 @@ next_begins {w} {h} {c} {n} s = by (dec_le w (c % w + n)) (dec_le 64 n)
     some = omega (arith, column_in w h c k.inside)
 
     by : Dec (w ≤ c % w + n) → Dec (64 ≤ n) → (c + n) % w % 64 ≡ 0
-    by (yes l) m = ap (λ m. m % 64) (next_row w c n some (omega (arith, k.in_row)))
+    by (yes l) m = ap (λ m. m % 64) (next_row w c n some (omega (arith, k.in_one_row)))
     by (no l) (yes m) = ap (λ m. m % 64) (column_on w c n (omega (arith, l))) ∙ omega (arith, k.begins, k.few)
     by (no l) (no m) = absurd (omega (arith, l, s.whole (omega (arith, m))))
 
@@ -78,7 +78,7 @@ last_chunk w h e some l =
         inside = omega arith;
         begins = rw back (omega arith);
         few = omega arith;
-        in_row = rw back (omega arith);
+        in_one_row = rw back (omega arith);
       };
       some = omega arith;
       under = omega arith;
@@ -122,12 +122,12 @@ pub record UpTo (n mask : ℕ) (P : ℕ → Type 0) (i : ℕ) : Type 0 where
 module _ {w h c n : ℕ} (k : Chunk w h c n) (f : ℕ → Bool) (mask : ℕ) where
   -- a bit of a mask of the row is that of a cell of the chunk
   pub row_told : RowBits w f c mask → (b : Bool) (i : ℕ) → i < n → b ≡ bit_set mask i → b ≡ f (c + i)
-  row_told m b i l e = e ∙ m i (omega (arith, k.few)) (omega (arith, k.in_row))
+  row_told m b i l e = e ∙ m i (omega (arith, k.few)) (omega (arith, k.in_one_row))
 
   module _ (m : Mask (in_row w f c) mask) where
     -- and so is one of a mask that ends with the row
     pub bit_told : (b : Bool) (i : ℕ) → i < n → b ≡ bit_set mask i → b ≡ f (c + i)
-    bit_told b i l e = e ∙ m i (omega (arith, k.few)) ∙ rw (lt-ltb (c % w + i) w (omega (arith, k.in_row)))
+    bit_told b i l e = e ∙ m i (omega (arith, k.few)) ∙ rw (lt-ltb (c % w + i) w (omega (arith, k.in_one_row)))
 
     -- no cell passes between a bit and the next one that is 1
     pub none_between : (s i e : ℕ) → NextBit mask s i → e ≤ i → e ≤ n → (j : ℕ) → j < e - s → f (c + s + j) ≡ false

@@ -77,7 +77,7 @@ ones_counted {w} {h} {c} {n} f mask fits s m =
     let few = s.chunk.few in
     let split : 64 ≡ n + (64 - n) = omega arith in
     let first : sum_below n (λ i. one (bit_set mask i)) ≡ sum_below n (λ i. one (f (c + i)))
-    = sum_same n (λ i. one (bit_set mask i)) (λ i. one (f (c + i))) (λ i l. rw (m i (omega arith), lt-ltb (c % w + i) w (let r = s.chunk.in_row in omega arith))) in
+    = sum_same n (λ i. one (bit_set mask i)) (λ i. one (f (c + i))) (λ i l. rw (m i (omega arith), lt-ltb (c % w + i) w (let r = s.chunk.in_one_row in omega arith))) in
     let rest : sum_below (64 - n) (λ i. one (bit_set mask (n + i))) ≡ 0
     = sum_none (64 - n) (λ i. one (bit_set mask (n + i))) (λ i l. rw (m (n + i) (omega arith), le-ltb (c % w + (n + i)) w (let r = s.whole (omega arith) in omega arith))) in
     let all : sum_below 64 (λ i. one (bit_set mask i)) ≡ sum_below n (λ i. one (bit_set mask i)) + sum_below (64 - n) (λ i. one (bit_set mask (n + i)))

@@ -7,7 +7,7 @@ pub record Chunk (w h c n : ℕ) : Type 0 where
   pub inside : c < w * h
   pub begins : c % w % 64 ≡ 0
   pub few : n ≤ 64
-  pub in_row : c % w + n ≤ w
+  pub in_one_row : c % w + n ≤ w
 
 -- and they are all of the mask that the row has
 pub record Span (w h c n : ℕ) : Type 0 where

@@ -1,4 +1,6 @@
 // Turning points: counted, written, and recognised. A row is taken 64 cells at a time, a chunk, by masks.
+#![tactic(auto)]
+
 ghost use Rattle.std.specs.Prelude.{◌≡◌, ◌+◌, ◌*◌, ◌%◌, ◌<◌, ◌≤◌, ◌&&◌, eqb, ltb, length, get_or};
 ghost use Rattle.floor.specs.Refusals.{Tells};
 ghost use Rattle.masks.specs.Masks.{bit_set, Mask};

@@ -16,7 +16,7 @@ use Rattle.settling.proofs.Back.{Before, shortest_before}
 use Rattle.effort.specs.Effort.{PlaceCell, Far}
 use Rattle.effort.specs.Net.{apart, Startable, Joined, net_of, Precedes}
 use Rattle.effort.proofs.Weights.{weight_sum, ≼_by_weight, ≺_by_weight}
-use Rattle.effort.proofs.Bridge.{links_positive, far_small, far-shortest, shortest-far}
+use Rattle.effort.proofs.Bridge.{links_positive, far_small, far_shortest, shortest_far}
 
 module _ (w h : ℕ) (words : List ℕ) (start goal : ℕ) (trip : Startable w h words start goal) where
   -- no shortest length to v is more than that to u and what u and v are apart
@@ -32,18 +32,18 @@ module _ (w h : ℕ) (words : List ℕ) (start goal : ℕ) (trip : Startable w h
       subst (λ (x : Len). l ≼ x) same (k.least (us ++ vs) both.0)
 
   -- A place other than the start has one before it.
-  pub place-before :
+  pub place_before :
       {v : ℕ} {l : Len} → PlaceCell w h words start goal v → v ≢ start → Far w h words start v l →
       (u : ℕ) × (m : Len) × Precedes w h words start goal v l u m
-  place-before {v} {l} p other f =
+  place_before {v} {l} p other f =
       ⊎_elim (λ s. absurd (other s.0)) found
-      (shortest_before (net_of w h words start goal) (far-shortest w h words start goal trip p f))
+      (shortest_before (net_of w h words start goal) (far_shortest w h words start goal trip p f))
     where
       found :
           (u : ℕ) × (d : ℕ) × Before (net_of w h words start goal) v (weight l) u d →
           (u : ℕ) × (m : Len) × Precedes w h words start goal v l u m
       found (u, d, b) =
-          let (m, k, e) = shortest-far w h words start goal trip b.shortest in
+          let (m, k, e) = shortest_far w h words start goal trip b.shortest in
           let weighs : weight (m ⊕ octile (place_of w u) (place_of w v)) ≡ weight l =
           weight_sum m (octile (place_of w u) (place_of w v)) ∙ ap (λ (x : ℕ). x + apart w u v) e ∙ b.sum in (
             u,

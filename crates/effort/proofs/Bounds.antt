@@ -47,12 +47,12 @@ one_more {Q} a (suc n) {k} (without q c) = by (ℕ_discrete n a) (one_more a n c
         record { count = r.count; counted = without (⊎_elim q e) r.counted; at_most = r.at_most; not_yet = λ l. r.not_yet (omega arith) }
 
 -- two numbers more add at most two
-pub two-more :
+pub two_more :
     {P Q : ℕ → Type 0} (a b n : ℕ) {m k : ℕ} → ((x : ℕ) → P x → Q x ⊎ ((x ≡ a) ⊎ (x ≡ b))) →
     Counts P (below n) m →
     Counts Q (below n) k →
     m ≤ k + 2
-two-more {P} {Q} a b n {m} {k} each p q =
+two_more {P} {Q} a b n {m} {k} each p q =
     let r = one_more a n q in
     let s = one_more b n r.counted in
     let l : m ≤ s.count = counts_fewer (λ x i. ⊎_elim (λ j. inl (inl j)) (⊎_elim (λ j. inl (inr j)) inr) (each x i)) p s.counted in
@@ -78,8 +78,8 @@ module _ (w h : ℕ) (words : List ℕ) (start goal : ℕ) where
   module _ {k : ℕ} (turning : Counts (λ c. corner (board w h words) (place_of w c) ≡ true) (below (w * h)) k) where
     -- An effort is at most two more than the number of turning points: where a walk leads to the goal
     pub found_bound : {e : ℕ} → EffortFound w h words start goal e → e ≤ k + 2
-    found_bound p = two-more start goal (w * h) (λ c i. i.0.one_of_lem) p.counted turning
+    found_bound p = two_more start goal (w * h) (λ c i. i.0.one_of) p.counted turning
 
     -- and where none does
     pub lost_bound : {e : ℕ} → EffortLost w h words start goal e → e ≤ k + 2
-    lost_bound p = two-more start goal (w * h) (λ c i. i.0.one_of_lem) p.counted turning
+    lost_bound p = two_more start goal (w * h) (λ c i. i.0.one_of) p.counted turning

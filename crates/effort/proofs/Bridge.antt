@@ -37,10 +37,10 @@ apart_positive w u v two h =
     two (same_cell w u v (place_eq (gap_none p.x q.x z.0) (gap_none p.y q.y z.1)))
 
 -- a floor that no row refuses, with two cells of it of which the first is free, makes a trip
-pub trip-of :
+pub trip_of :
     {w h : ℕ} {words : List ℕ} {start goal : ℕ} → Floor w h words → start < w * h → goal < w * h → Free (board w h words) (place_of w start) →
     Startable w h words start goal
-trip-of f s g free = record { few_cells = f.few_cells; start_inside = s; goal_inside = g; start_free = free }
+trip_of f s g free = record { few_cells = f.few_cells; start_inside = s; goal_inside = g; start_free = free }
 
 module _ (w h : ℕ) (words : List ℕ) (start goal : ℕ) where
   -- links have length
@@ -68,15 +68,15 @@ module _ (w h : ℕ) (words : List ℕ) (start goal : ℕ) where
       }))
 
   -- and so does a chain of the board: its turning points are cells
-  chain-on :
+  chain_on :
       {s t : Place} {l : Len} → GroundChain walkers (board w h words) s t l → (u v d : ℕ) → PlaceCell w h words start goal u →
       PlaceCell w h words start goal v →
       place_of w u ≡ s →
       place_of w v ≡ t →
       Chain (net_of w h words start goal) u d →
       Chain (net_of w h words start goal) v (d + weight l)
-  chain-on (last {s = s} {t = t} n k) u v d pu pv eu ev c = link_on s t n k u v d pu pv eu ev c
-  chain-on (join {s = s} {p = p} {t = t} {l = l} n k turns r) u v d pu pv eu ev c =
+  chain_on (last {s = s} {t = t} n k) u v d pu pv eu ev c = link_on s t n k u v d pu pv eu ev c
+  chain_on (join {s = s} {p = p} {t = t} {l = l} n k turns r) u v d pu pv eu ev c =
       let free = corner_free (board w h words) p turns in
       let x : ℕ = cell_of w p in
       let ex : place_of w x ≡ p = place_of_free (within w h words) p free in
@@ -84,7 +84,7 @@ module _ (w h : ℕ) (words : List ℕ) (start goal : ℕ) where
       record { inside = free_cell (within w h words) p free; one_of = inl (subst (λ (q : Place). corner (board w h words) q ≡ true) (sym ex) turns) } in
       subst (λ (y : ℕ). Chain (net_of w h words start goal) v y)
       (add_assoc d (weight (octile s p)) (weight l) ∙ ap (λ (y : ℕ). d + y) (sym (weight_sum (octile s p) l)))
-      (chain-on r x v (d + weight (octile s p)) px pv ex ev (link_on s p n k u x d pu px eu ex c))
+      (chain_on r x v (d + weight (octile s p)) px pv ex ev (link_on s p n k u x d pu px eu ex c))
 
 module _ (w h : ℕ) (words : List ℕ) (start goal : ℕ) (trip : Startable w h words start goal) where
   -- the start is a place
@@ -124,9 +124,9 @@ module _ (w h : ℕ) (words : List ℕ) (start goal : ℕ) (trip : Startable w h
   start_far = record { some = ([], (trip.start_free, refl), refl); least = λ ds v. 𝟎_least (len ds) }
 
   -- a place at a shortest length has a chain of its weight
-  far-chain :
+  far_chain :
       {v : ℕ} {l : Len} → PlaceCell w h words start goal v → Far w h words start v l → Chain (net_of w h words start goal) v (weight l)
-  far-chain {v} {l} p f = by (place_discrete (place_of w start) (place_of w v))
+  far_chain {v} {l} p f = by (place_discrete (place_of w start) (place_of w v))
     where
       by : Dec (place_of w start ≡ place_of w v) → Chain (net_of w h words start goal) v (weight l)
       by (yes e) =
@@ -136,56 +136,56 @@ module _ (w h : ℕ) (words : List ℕ) (start goal : ℕ) (trip : Startable w h
           (subst (λ (m : Len). Chain (net_of w h words start goal) start (weight m)) none here)
       by (no n) =
           subst (λ (y : ℕ). Chain (net_of w h words start goal) v y) (zero-add (weight l))
-          (chain-on w h words start goal (shortest_chain walker_ways (within w h words).padded (place_of w start) (place_of w v) l n f) start v 0 start_place
+          (chain_on w h words start goal (shortest_chain walker_ways (within w h words).padded (place_of w start) (place_of w v) l n f) start v 0 start_place
           p refl refl here)
 
   -- The shortest walk to a place gives the shortest chain.
-  pub far-shortest :
+  pub far_shortest :
       {v : ℕ} {l : Len} → PlaceCell w h words start goal v → Far w h words start v l → Shortest (net_of w h words start goal) v (weight l)
-  far-shortest {v} {l} p f = record {
-    chain = far-chain p f;
+  far_shortest {v} {l} p f = record {
+    chain = far_chain p f;
     best = λ e c. let (ds, a, q) = chain_walk c in subst (λ (y : ℕ). weight l ≤ y) q (weighs-≼ (far_small v f) (f.least ds a));
   }
 
   -- Where a walk leads to a cell there is a shortest length.
-  pub walk-far :
+  pub walk_far :
       (v : ℕ) (ds : List Dir) → Walk walkers (board w h words) (place_of w start) (place_of w v) ds → (l : Len) × Far w h words start v l
-  walk-far v ds a = ⊎_elim (λ f. f) (λ none. absurd (none ds a)) (shortest_or_none (within w h words) walkers (place_of w start) (place_of w v))
+  walk_far v ds a = ⊎_elim (λ f. f) (λ none. absurd (none ds a)) (shortest_or_none (within w h words) walkers (place_of w start) (place_of w v))
 
   -- Every walk to a place has a chain that weighs no more.
   pub walk_chain :
       {v : ℕ} (ds : List Dir) → PlaceCell w h words start goal v → Walk walkers (board w h words) (place_of w start) (place_of w v) ds →
       (d : ℕ) × Chain (net_of w h words start goal) v d × (d ≤ weight (len ds))
   walk_chain {v} ds p a =
-      let (l, f) = walk-far v ds a in
-      (weight l, far-chain p f, weighs-≼ (far_small v f) (f.least ds a))
+      let (l, f) = walk_far v ds a in
+      (weight l, far_chain p f, weighs-≼ (far_small v f) (f.least ds a))
 
   -- The shortest chain gives the shortest walk.
-  pub shortest-far :
+  pub shortest_far :
       {v d : ℕ} → Shortest (net_of w h words start goal) v d → (l : Len) × Far w h words start v l × (weight l ≡ d)
-  shortest-far {v} {d} s =
+  shortest_far {v} {d} s =
       let (ds, a, q) = chain_walk s.chain in
-      let (l, f) = walk-far v ds a in
-      (l, f, shortest_unique (net_of w h words start goal) (far-shortest (chain_place s.chain) f) s)
+      let (l, f) = walk_far v ds a in
+      (l, f, shortest_unique (net_of w h words start goal) (far_shortest (chain_place s.chain) f) s)
 
   -- Shortest lengths are ordered as their weights are.
   pub far_order : (u v : ℕ) {l m : Len} → Far w h words start u l → Far w h words start v m → l ≼ m ↔ weight l ≤ weight m
   far_order u v f k = (weighs-≼ (far_small u f), ≼_by_weight (far_small v k))
 
   -- A cell can be reached in the net exactly where it is a place and a walk leads to it.
-  pub reachable-iff :
+  pub reachable_iff :
       (v : ℕ) →
       Reachable (net_of w h words start goal) v
       ↔ (PlaceCell w h words start goal v × ((ds : List Dir) × Walk walkers (board w h words) (place_of w start) (place_of w v) ds))
-  reachable-iff v = (
+  reachable_iff v = (
     λ r. let (ds, a, e) = chain_walk r.1 in (chain_place r.1, (ds, a)),
     λ (p, (ds, a)). let (d, c, k) = walk_chain ds p a in (d, c),
   )
 
   -- and exactly where it is a place at a shortest length
-  pub reachable-far :
+  pub reachable_far :
       (v : ℕ) → Reachable (net_of w h words start goal) v ↔ (PlaceCell w h words start goal v × ((l : Len) × Far w h words start v l))
-  reachable-far v = (
-    λ r. let (ds, a, e) = chain_walk r.1 in (chain_place r.1, walk-far v ds a),
-    λ (p, (l, f)). (weight l, far-chain p f),
+  reachable_far v = (
+    λ r. let (ds, a, e) = chain_walk r.1 in (chain_place r.1, walk_far v ds a),
+    λ (p, (l, f)). (weight l, far_chain p f),
   )

@@ -1,5 +1,7 @@
 // The two ends of a trip: the work space is made ready for the search, start and goal have their places, and the corners
 // linked to them their flags.
+#![tactic(auto)]
+
 ghost use Rattle.std.specs.Prelude.{ℕ, ◌+◌, ◌<◌, ◌≤◌, length};
 ghost use Rattle.places.specs.Places.{Ascending};
 ghost use Rattle.ends.specs.Flags.{Flaggable};
@@ -75,7 +77,7 @@ pub fn prepare(
 ) -> Trip
     requires able { Searchable w h words.now (record { clear = clear.now; corners = corners.now; starts = starts.now; neighbours = neighbours.now }) start goal work.old }
     requires empty { (c : ℕ) → c < 6 → Empty (length corners.now + 2) c work.old }
-    ensures { Prepared w h words.now (record { clear = clear.entry.now; corners = corners.now; starts = starts.now; neighbours = neighbours.now }) start goal result work.old work.new }
+    ensures { Prepared w h words.now (record { clear = clear.now; corners = corners.now; starts = starts.now; neighbours = neighbours.now }) start goal result work.old work.new }
 {
     let t = trip_of(w, corners, start, goal);
     let n = t.k + 2;

@@ -9,7 +9,6 @@ use lib.ListN.{get_or, replicate}
 use Rattle.floor.specs.Board.{Place, at, Free, Dir, Offset, less, same, more, dx, dy, shift, moving}
 use Rattle.windows.specs.Window.{InWindow}
 use Rattle.floor.specs.Words.{board, Sized}
-use Rattle.floor.proofs.Places.{padded}
 use Rattle.ground.specs.Kind.{walkers}
 use Rattle.ground.specs.Walk.{Legal}
 use Rattle.ground.specs.Clearance.{ahead}

@@ -15,7 +15,7 @@ use Rattle.floor.proofs.Below.{below}
 use Rattle.floor.proofs.Places.{padded}
 use Rattle.windows.proofs.Windows.{shift_offset}
 use Rattle.ground.specs.Clearance.{ahead, Clearance}
-use Rattle.ground.proofs.Logic.{not_both, and_left, and_right, and_false}
+use Rattle.ground.proofs.Logic.{not_both, and_left, and_right, and-false}
 use Rattle.ground.proofs.Cells.{column_inside, row_inside}
 use Rattle.ground.proofs.Walks.{place_eq}
 use Rattle.marks.specs.Marks.{ClearanceAt}
@@ -86,11 +86,11 @@ module _ (B : Board) (d : Dir) (p : Place) (s : slanted d ≡ true) where
 
   -- the one across,
   pub needs_across : B (shift (dx d) p.x) p.y ≡ false → step B d p ≡ false
-  needs_across h = slanted_step ∙ rw (h, and_false)
+  needs_across h = slanted_step ∙ rw (h, and-false)
 
   -- the one along,
   pub needs_along : B p.x (shift (dy d) p.y) ≡ false → step B d p ≡ false
-  needs_along h = slanted_step ∙ rw (h, and_false, and_false)
+  needs_along h = slanted_step ∙ rw (h, and-false, and-false)
 
   -- and its target
   pub needs_target : B (shift (dx d) p.x) p.y ≡ true → B p.x (shift (dy d) p.y) ≡ true →

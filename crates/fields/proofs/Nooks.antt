@@ -1,12 +1,12 @@
 -- A place before a blocked one is a turning point where it opens out on one side. Assumes nothing.
 use Prim.Native.Nat.{ℕ, suc, ◌+◌, ◌%◌, ◌<◌}
-use mathlib.Core.Bool.{true, false, ◌||◌, and-true, or-false, or_comm}
+use mathlib.Core.Bool.{false, ◌||◌, and-true, or-false, or_comm}
 use mathlib.Core.Path.{◌≡◌, ◌∙◌, ap}
 use native.Mathlib.Omega.{arith}
 use borrow.Author.Rules.{rules}
 use Rattle.floor.specs.Board.{Board, at, Free, Dir, N, E, S, W, dir_at, dx, dy, shift, go, nook, corner}
 use Rattle.floor.proofs.Below.{below}
-use Rattle.ground.proofs.Logic.{and_false}
+use Rattle.ground.proofs.Logic.{and-false}
 use Rattle.ground.proofs.Cells.{back, back_undoes}
 use Rattle.ground.proofs.Walks.{place_eq}
 use Rattle.fields.specs.Fields.{opens_out}
@@ -20,23 +20,23 @@ BySides c right b left =
 -- ahead is north
 north : BySides N E S W
 unfolding corner nook
-north B x y f g k = simp (f, g, k, and_false, and-true, or-false)
+north B x y f g k = simp (f, g, k, and-false, and-true, or-false)
 
 -- east
 east : BySides E S W N
 unfolding corner nook
-east B x y f g k = simp (f, g, k, and_false)
+east B x y f g k = simp (f, g, k, and-false)
 
 -- south
 south : BySides S W N E
 unfolding corner nook
 south B x y f g k =
-    simp (f, g, k, and_false, and-true) (or_comm (opens_out B E (go N (at x y)) (at x y)) (opens_out B W (go N (at x y)) (at x y)))
+    simp (f, g, k, and-false, and-true) (or_comm (opens_out B E (go N (at x y)) (at x y)) (opens_out B W (go N (at x y)) (at x y)))
 
 -- or west
 west : BySides W N E S
 unfolding corner nook
-west B x y f g k = simp (f, g, k, and_false, or-false)
+west B x y f g k = simp (f, g, k, and-false, or-false)
 
 -- the four by number
 pub by_sides : (d : ℕ) → d < 4 → BySides (dir_at d) (dir_at ((d + 1) % 4)) (dir_at ((d + 2) % 4)) (dir_at ((d + 3) % 4))

@@ -1,7 +1,7 @@
 -- What the rows of a field show, row by row: the laws behind a sweep, on any board. Assumes nothing.
 use Prim.Native.Nat.{ℕ, zero, suc, ◌+◌, ◌-◌, min, ◌≤◌, ◌<◌}
 use mathlib.Core.Bool.{true, false}
-use mathlib.Core.Logic.{◌↔◌, ◌⊎◌, inl, ⊎_elim}
+use mathlib.Core.Logic.{◌↔◌, inl, ⊎_elim}
 use mathlib.Core.Path.{◌≡◌, sym, ◌∙◌, ap, subst}
 use native.Mathlib.Omega.{arith}
 use lib.ListN.{replicate}

@@ -1,4 +1,6 @@
 // The sweep of the fields round a place: which turning points it is linked to.
+#![tactic(auto)]
+
 ghost use Rattle.std.specs.Prelude.{false, ◌&&◌, ◌≡◌, ◌⊎◌, suc, ◌+◌, ◌-◌, ◌*◌, ◌%◌, ◌<◌, ◌≤◌, ltb};
 ghost use Rattle.floor.specs.Board.{at, Free, corner, dir_at};
 ghost use Rattle.floor.specs.Words.{board, number_of};
@@ -11,14 +13,14 @@ pub const ENDED: usize = 256;
 
 // What passing a row tells: one more than the cell of the turning point that the row shows, or 0; and how many steps are open in it and
 // all rows before, or ENDED where no row follows.
-#[derive(Drop)]
+#[derive(Clone, Copy)]
 pub struct RowEnd {
     pub shown: usize,
     pub reach: usize,
 }
 
 // The sweep of a field from cell (sx, sy): row `row` begins at cell (x, y), and `reach` steps are open in all rows before it.
-#[derive(Drop)]
+#[derive(Clone, Copy)]
 struct Sweep {
     sx: usize,
     sy: usize,
@@ -30,7 +32,7 @@ struct Sweep {
 }
 
 // A cell by column and row.
-#[derive(Drop)]
+#[derive(Clone, Copy)]
 struct Spot {
     x: usize,
     y: usize,

@@ -6,7 +6,7 @@ use mathlib.Core.Path.{◌≡◌, sym, ap, ap₂, ◌∙◌}
 use native.Mathlib.Nat.{suc-mul, zero-mul, add-zero}
 use native.Mathlib.Omega.{arith}
 use lib.ListN.{length, drop, length-take, length-drop}
-use lib.Seq.{get_or_take, get_or-drop}
+use lib.Seq.{get_or-take, get_or-drop}
 use Rattle.floor.proofs.Tables.{not_so}
 use Rattle.floor.specs.Words.{sum_below, one, bit_free, row_words, row_of, board, clear_bits, free_cells, Floor}
 use Rattle.floor.proofs.Sums.{sum_same, sum_none, sum_add}
@@ -37,7 +37,7 @@ module _ (w h : ℕ) (words : List ℕ) (f : Floor w h words) where
       let place : (64 * (y * row_words w) + k) / 64 ≡ y * row_words w + k / 64 = omega arith in
       let bit : (64 * (y * row_words w) + k) % 64 ≡ k % 64 = omega arith in
       let within : k / 64 < row_words w = omega arith in
-      rw (place, bit, get_or_take (row_words w) (drop (y * row_words w) words) (k / 64) 0 within, get_or-drop)
+      rw (place, bit, get_or-take (row_words w) (drop (y * row_words w) words) (k / 64) 0 within, get_or-drop)
 
   -- no bit of row y past its cells is 0
   pub row_used : (y : ℕ) → y < h → (x : ℕ) → w ≤ x → x < 64 * row_words w → bit_free (row_of w words y) x ≡ false

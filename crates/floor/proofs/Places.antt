@@ -1,12 +1,12 @@
 -- What a floor's board says at a place whose column or row is outside, or inside: as the code tests it, by `x == 0` and `w < x`, and
 -- goes on, with `x - 1`. Assumes nothing.
-use Prim.Native.Nat.{ℕ, zero, suc, ◌+◌, ◌-◌, ◌*◌, ◌/◌, ◌%◌, ◌<◌, ◌≤◌}
-use mathlib.Core.Bool.{Bool, false, and_false}
-use mathlib.Core.List.{List, [], ◌∷◌}
+use Prim.Native.Nat.{ℕ, zero, suc, ◌+◌, ◌-◌, ◌*◌, ◌<◌, ◌≤◌}
+use mathlib.Core.Bool.{false, and-false}
+use mathlib.Core.List.{List}
 use mathlib.Core.Path.{◌≡◌, refl}
 use native.Mathlib.Nat.{le_of_suc-le-suc, mul-le-mul_right, suc-mul}
 use native.Mathlib.Omega.{arith}
-use lib.ListN.{length, get_or, take, drop, length-take, length-drop}
+use lib.ListN.{length, take, drop, length-take, length-drop}
 use borrow.Author.Tests.{lt-ltb, le-ltb}
 use Rattle.floor.specs.Board.{Padded}
 use Rattle.floor.specs.Words.{bit_free, row_of, row_words, free_in, board, IsRow}
@@ -75,4 +75,4 @@ padded w h words = record { row = λ x. refl; column = column }
   where
     column : (y : ℕ) → board w h words 0 y ≡ false
     column zero = refl
-    column (suc y) = rw and_false
+    column (suc y) = rw and-false

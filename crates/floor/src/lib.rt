@@ -1,4 +1,6 @@
 // The floor's words, its cells, and the refusals 1 to 3.
+#![tactic(auto)]
+
 ghost use Rattle.std.specs.Prelude.{◌≡◌, ◌*◌, ◌<◌, ◌≤◌, length};
 ghost use Rattle.floor.specs.Refusals.{FirstOf, Tells};
 ghost use Rattle.floor.specs.Words.{bit_free, free_in, board, row_words, Sized, IsRow, SizeRefused, RestClear, UnusedClear, floor_rows, clear_bits};

@@ -8,7 +8,7 @@ use mathlib.Core.Path.{◌≡◌, refl, sym, ap, ap₂, subst, ◌∙◌}
 use native.Mathlib.Decide.{dec_lt, ℕ_discrete}
 use native.Mathlib.Omega.{arith}
 use lib.ListN.{length, get_or, take, drop}
-use lib.Seq.{take_at, get_or_take, length-take-le, drop-length}
+use lib.Seq.{take_at, get_or-take, length-take-le, drop-length}
 use Rattle.lengths.specs.Lengths.{Len}
 use Rattle.floor.specs.Refusals.{Refusal, refuse, FirstOf}
 use Rattle.floor.specs.Words.{row_words, row_of, bit_free, bit_clear, SizeRefused, floor_rows, board, number_of, place_of}
@@ -30,7 +30,7 @@ use Rattle.effort.proofs.Bounds.{lost_unique}
 use Rattle.telling.specs.declared.Answer.{Answer}
 use Rattle.answering.specs.Asked.{Asked, cell_of_start, cell_of_goal, work_size, Distance, WalkFound, NoRoute}
 use Rattle.query.specs.Query.{Shut, QueryOutcome}
-use Rattle.query.proofs.Outcome.{codes, code-kind, found_same, no_route_same}
+use Rattle.query.proofs.Outcome.{codes, code_kind, found_same, no_route_same}
 use Rattle.query.proofs.Passed.{passed, trip_passed}
 use Rattle.reading.specs.Lines.{At, TwoLine}
 use Rattle.reading.specs.Maps.{RowAt, row_place, Filled, free_letter}
@@ -62,7 +62,7 @@ cut_filled text from w h before after other e room f =
         let j : x / 64 < row_words w = omega arith in
         ap (λ word. bit_clear word (x % 64))
         (row_word w (take (h * row_words w) after) y (x / 64) j
-        ∙ get_or_take (h * row_words w) after (y * row_words w + x / 64) 0 (omega (arith, row_ends y h (row_words w) l))
+        ∙ get_or-take (h * row_words w) after (y * row_words w + x / 64) 0 (omega (arith, row_ends y h (row_words w) l))
         ∙ sym (row_word w after y (x / 64) j))
         ∙ f.drawn y l row x m
 
@@ -275,7 +275,7 @@ module _ (g : Ground) (x y u v : ℕ) where
 
     -- and one answer
     pub answer_once : r ≡ r'
-    answer_once = by (code-kind r.code (codes a r.code p.number))
+    answer_once = by (code_kind r.code (codes a r.code p.number))
       where
         a : Asked
         a = asked g x y u v route work
@@ -316,7 +316,7 @@ module _ (g : Ground) (x y u v : ℕ) where
   pub trip_once : {a b : List ℕ} → TripReply g x y u v a → TripReply g x y u v b → a ≡ b
   trip_once p q =
       p.line
-      ∙ reply_once p.route p.work q.route q.work (p.route_size ∙ sym q.route_size) (p.work_size_lem ∙ sym q.work_size_lem) p.outcome q.outcome
+      ∙ reply_once p.route p.work q.route q.work (p.route_size ∙ sym q.route_size) (p.work_long ∙ sym q.work_long) p.outcome q.outcome
       ∙ sym q.line
 
   -- a line with a route: the cells after its colon are the route of the trip, as many as its fourth number says

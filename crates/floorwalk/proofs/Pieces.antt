@@ -25,14 +25,14 @@ pub begun : (text route work out : List ℕ) (at line used : ℕ) (r : Spot) →
     → length route ≡ 16384 → length work ≡ 12300 → length out ≡ 131072 → Begins text r × PieceRoom route work out r.used
 begun text route work out at line used r e i n u a b c =
     subst (λ t. Begins text t × PieceRoom route work out t.used) (sym e)
-    (record { inside = i; numbered = n; going = refl }, record { route_size = a; work_size_lem = b; out_size = c; little = u })
+    (record { inside = i; numbered = n; going = refl }, record { route_size = a; work_long = b; out_size = c; little = u })
 
 -- after a piece is written its spot has no output, and lines may go on there
 pub flushed : (text route work out : List ℕ) (p r : Spot) → r ≡ spot_of p.at p.line 0 p.last → p.at ≤ length text → p.line ≤ p.at + 257
     → length route ≡ 16384 → length work ≡ 12300 → length out ≡ 131072 → (r.last ≡ false → Begins text r) × PieceRoom route work out r.used
 flushed text route work out p r e i n a b c =
     subst (λ t. (t.last ≡ false → Begins text t) × PieceRoom route work out t.used) (sym e)
-    (λ g. record { inside = i; numbered = n; going = g }, record { route_size = a; work_size_lem = b; out_size = c; little = omega arith })
+    (λ g. record { inside = i; numbered = n; going = g }, record { route_size = a; work_long = b; out_size = c; little = omega arith })
 
 -- lines answered after lines answered
 pub passed_then : (g : Ground) (text : List ℕ) (from first mid line at last : ℕ) (bytes others : List ℕ)

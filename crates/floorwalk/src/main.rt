@@ -1,34 +1,38 @@
 // floorwalk: reads a floor and trips from standard input, surveys the floor and answers trip by trip.
 //
 // Reading and writing are here. What is written is made by the crates `opening` and `replying`, on slices, where promises can speak of it.
-ghost use Rattle.std.specs.Prelude.{false, ◌≡◌, ◌+◌, ◌<◌, ◌≤◌, length};
+#![tactic(auto)]
+
+ghost use Rattle.std.specs.Prelude.{false, ◌≡◌, ◌+◌, ◌<◌, ◌≤◌, length, IfOk};
 ghost use Rattle.survey.specs.Survey.{lists};
-ghost use Rattle.opening.specs.Grounds.{ground, Walkable};
+ghost use Rattle.opening.specs.Grounds.{surveyed, Walkable};
 ghost use Rattle.replying.specs.Replies.{Begins, spot_of};
 ghost use Rattle.opening.specs.Openings.{Kept};
 ghost use Rattle.replying.specs.Pieces.{PieceRoom};
 
-use libc::{STDIN_FILENO, STDOUT_FILENO};
 use opening::{Opened, Site, open_site};
 use replying::{Spot, fill};
+use std::io;
+use std::io::{Read, Stdin, Stdout, Write};
 
 // Writes the output so far; the spot has none then.
-fn flush(out: &[u8], spot: Spot) -> Spot
+fn flush(to: &mut Stdout, out: &[u8], spot: Spot) -> io::Result<Spot>
     requires { spot.used ≤ length out.now }
-    ensures { result ≡ spot_of spot.at spot.line 0 spot.last }
+    ensures { IfOk result (λ s. s ≡ spot_of spot.at spot.line 0 spot.last) }
 {
     let used = spot.used;
-    io::write_all(STDOUT_FILENO, &out[..used]);
-    Spot {
+    to.write_all(&out[..used])?;
+    Ok(Spot {
         at: spot.at,
         line: spot.line,
         used: 0,
         last: spot.last,
-    }
+    })
 }
 
 // Writes the output so far and the replies to the lines from a spot on, piece by piece.
 fn write_pieces(
+    to: &mut Stdout,
     text: &[u8],
     more: bool,
     first: Spot,
@@ -42,8 +46,8 @@ fn write_pieces(
     route: &mut [u16],
     work: &mut [u32],
     out: &mut [u8],
-)
-    requires walkable { Walkable (ground w h words.now clear.now corners.now starts.now arcs.now) }
+) -> io::Result<()>
+    requires walkable { Walkable (surveyed w h words.now clear.now corners.now starts.now arcs.now) }
     requires begins { Begins text.now first × PieceRoom route.old work.old out.old first.used }
 {
     let mut spot = first;
@@ -51,8 +55,9 @@ fn write_pieces(
         spot = fill(
             text, more, spot, words, w, h, clear, corners, starts, arcs, route, work, out,
         );
-        spot = flush(out, spot);
+        spot = flush(to, out, spot)?;
     }
+    Ok(())
 }
 
 // Where the trips of a surveyed floor begin: the sizes and the map are h + 1 lines.
@@ -71,6 +76,7 @@ fn first_spot(site: Site) -> Spot
 // Writes the replies of a surveyed floor, whose line stands in the output already. A route has at most 16,384 cells, and a plan of 2,048
 // turning points takes 6 * 2,050 work entries.
 fn write_replies(
+    to: &mut Stdout,
     text: &[u8],
     more: bool,
     site: Site,
@@ -80,7 +86,7 @@ fn write_replies(
     starts: &[u16],
     arcs: &[u16],
     out: &mut [u8],
-)
+) -> io::Result<()>
     requires { Kept text.now site words.now (lists clear.now corners.now starts.now arcs.now) out.old }
 {
     let mut route = [0u16; 16384];
@@ -93,6 +99,7 @@ fn write_replies(
     let ends = k + 1;
     let m = site.arcs;
     write_pieces(
+        to,
         text,
         more,
         first_spot(site),
@@ -106,11 +113,11 @@ fn write_replies(
         &mut route,
         &mut work,
         out,
-    );
+    )
 }
 
 // Answers a whole text, after which the input goes on or ends. The lists have the largest sizes that a plan may need.
-fn walk(text: &[u8], more: bool) {
+fn walk(to: &mut Stdout, text: &[u8], more: bool) -> io::Result<()> {
     let mut words = [0u64; 512];
     let mut clear = [0u8; 65536];
     let mut corners = [0u16; 2048];
@@ -126,31 +133,45 @@ fn walk(text: &[u8], more: bool) {
         &mut arcs,
         &mut out,
     ) {
-        Opened::Refused(used) => {
-            io::write_all(STDOUT_FILENO, &out[..used]);
-        }
-        Opened::Floor(site) => {
-            write_replies(
-                text, more, site, &words, &clear, &corners, &starts, &arcs, &mut out,
-            );
-        }
+        Opened::Refused(used) => to.write_all(&out[..used]),
+        Opened::Floor(site) => write_replies(
+            to, text, more, site, &words, &clear, &corners, &starts, &arcs, &mut out,
+        ),
     }
+}
+
+// Reads until the list is full or the input ends, and tells how many bytes were read.
+fn read_full(from: &mut Stdin, list: &mut [u8]) -> io::Result<usize>
+    ensures { IfOk result (λ n. n ≤ length list.new) }
+{
+    let mut done = 0;
+    while done < list.len() {
+        let n = from.read(&mut list[done..])?;
+        if n == 0 {
+            break;
+        }
+        done += n;
+    }
+    Ok(done)
 }
 
 // Whether the input goes on after n bytes, of which 65,536 are taken at most.
-fn goes_on(n: usize) -> bool
-    ensures { n < 65536 → result ≡ false }
+fn goes_on(from: &mut Stdin, n: usize) -> io::Result<bool>
+    ensures { IfOk result (λ more. n < 65536 → more ≡ false) }
 {
     if n < 65536 {
-        return false;
+        return Ok(false);
     }
     let mut one = [0u8; 1];
-    io::read_full(STDIN_FILENO, &mut one) != 0
+    let read = read_full(from, &mut one)?;
+    Ok(read != 0)
 }
 
-fn main() {
-    let mut text = io::large_buffer();
-    let n = io::read_full(STDIN_FILENO, &mut text);
-    let more = goes_on(n);
-    walk(&text[..n], more);
+fn main(rt: HostRuntime) -> io::Result<()> {
+    let mut from = rt.stdin();
+    let mut to = rt.stdout();
+    let mut text = [0u8; 65536];
+    let n = read_full(&mut from, &mut text)?;
+    let more = goes_on(&mut from, n)?;
+    walk(&mut to, &text[..n], more)
 }

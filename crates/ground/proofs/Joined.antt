@@ -57,12 +57,12 @@ module _ (B : Board) where
   -- and no turning point, if it is between the two ends
   fine_plain : (p : Place) (m a : ℕ) → fine B p m a ≡ true → 0 < m → m < a → corner B p ≡ false
   fine_plain p m a h q r =
-      not_true (corner B p)
+      not-true (corner B p)
       (rw (lt-ltb 0 m q, lt-ltb m a r) at (and_right (B p.x p.y) (not (ltb 0 m && (ltb m a && corner B p))) h))
     where
-      not_true : (b : Bool) → not b ≡ true → b ≡ false
-      not_true true h = sym h
-      not_true false h = refl
+      not-true : (b : Bool) → not b ≡ true → b ≡ false
+      not-true true h = sym h
+      not-true false h = refl
 
   -- and the other way round
   is_fine : (p : Place) (m a : ℕ) → Free B p → (0 < m → m < a → corner B p ≡ false) → fine B p m a ≡ true

@@ -15,7 +15,7 @@ use Rattle.floor.specs.Board.{Place, Dir, Offset, less, same, more, dx, dy, shif
 use Rattle.ground.specs.Kind.{octile}
 use Rattle.ground.specs.Walk.{end, len}
 use Rattle.ground.specs.Line.{toward, compass, diagonal_way, straight_way, line}
-use Rattle.ground.proofs.Logic.{true_or_false, not_both, and_both, and_false, or_left, or_right}
+use Rattle.ground.proofs.Logic.{true_or_false, not_both, and_both, and-false, or_left, or_right}
 use Rattle.ground.proofs.Tables.{offset_pair}
 use Rattle.ground.proofs.Walks.{place_eq, len_eq, len_append}
 use Rattle.ground.proofs.Axes.{travel, end_x, end_y}
@@ -202,7 +202,7 @@ module _ (s t : Place) where
   -- and its straight direction straight
   pub line_straight : slanted (straight_way s t) ≡ false
   line_straight =
-      ⊎_elim (λ w. ap slanted (wide_way w) ∙ compass_slanted h same ∙ and_false (moving h))
+      ⊎_elim (λ w. ap slanted (wide_way w) ∙ compass_slanted h same ∙ and-false (moving h))
       (λ w. ap slanted (tall_way w) ∙ compass_slanted same v)
       (true_or_false (ltb over_y over_x))
 

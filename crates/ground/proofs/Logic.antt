@@ -28,9 +28,9 @@ pub and_both : {a b : Bool} → a ≡ true → b ≡ true → (a && b) ≡ true
 and_both h k = rw (h, k)
 
 -- with one that fails both fail
-pub and_false : (b : Bool) → (b && false) ≡ false
-and_false true = refl
-and_false false = refl
+pub and-false : (b : Bool) → (b && false) ≡ false
+and-false true = refl
+and-false false = refl
 
 -- the first passes, so one does
 pub or_left : (a b : Bool) → a ≡ true → (a || b) ≡ true

@@ -52,8 +52,8 @@ number_in w h x y a b = omega (arith, mul-le-mul_right w b, suc-mul y w, mul_com
 
 -- ---- a floor's board
 -- a row has no more columns than cells
-in_row : (w : ℕ) (row : List ℕ) (x : ℕ) → free_in w row x ≡ true → x ≤ w
-in_row w row x f = by (dec_le x w)
+in_one_row : (w : ℕ) (row : List ℕ) (x : ℕ) → free_in w row x ≡ true → x ≤ w
+in_one_row w row x f = by (dec_le x w)
   where
     by : Dec (x ≤ w) → x ≤ w
     by (yes l) = l
@@ -63,7 +63,7 @@ in_row w row x f = by (dec_le x w)
 in_columns : (w h : ℕ) (words : List ℕ) (x y : ℕ) → board w h words x y ≡ true → x ≤ w
 unfolding board
 in_columns w h words x zero f = not_both f refl
-in_columns w h words x (suc y) f = in_row w (row_of w words y) x (and_right (ltb y h) _ f)
+in_columns w h words x (suc y) f = in_one_row w (row_of w words y) x (and_right (ltb y h) _ f)
 
 -- and none past the last row
 in_rows : (w h : ℕ) (words : List ℕ) (x y : ℕ) → board w h words x y ≡ true → y ≤ h

@@ -7,7 +7,7 @@ use mathlib.Core.Logic.{◌⊎◌, inl, inr}
 use Prim.Native.Nat.{ℕ, ◌+◌, ◌≤◌}
 use native.Mathlib.Omega.{arith}
 use lib.ListN.{length}
-use borrow.Author.Tests.{not_true}
+use borrow.Author.Tests.{not-true}
 use Rattle.lengths.specs.Lengths.{Len, ◌≼◌, gap}
 use Rattle.lengths.specs.Laws.{≺_trans, ≼_both}
 use Rattle.floor.specs.Board.{Board, Padded, Place, Free, Dir, Offset, dx, dy, shift, go, moving, slanted, step, corner}
@@ -46,11 +46,11 @@ same_go a b s p q = place_eq (ap (λ (o : Offset). shift o s.x) p) (ap (λ (o : 
 module _ {B : Board} (padded : Padded B) (a b : Dir) (ρ : List Dir) (s : Place) (l : Legal trucks B s (a ∷ b ∷ ρ)) where
   -- the first step is straight
   a_straight : slanted a ≡ false
-  a_straight = not_true (slanted a) (and_left (not (slanted a)) (step B a s) l.1)
+  a_straight = not-true (slanted a) (and_left (not (slanted a)) (step B a s) l.1)
 
   -- and the second
   b_straight : slanted b ≡ false
-  b_straight = not_true (slanted b) (and_left (not (slanted b)) (step B b (go a s)) l.2.1)
+  b_straight = not-true (slanted b) (and_left (not (slanted b)) (step B b (go a s)) l.2.1)
 
   -- the cells of the first step are free
   ca : Cells B (dx a) (dy a) s.x s.y
@@ -130,7 +130,7 @@ module _ {B : Board} (padded : Padded B) (a b : Dir) (ρ : List Dir) (s : Place)
 no_diagonal : (B : Board) (s : Place) (ds : List Dir) → Legal trucks B s ds → (len ds).diagonal ≡ 0
 no_diagonal B s [] l = refl
 no_diagonal B s (d ∷ ds) l =
-    let k : slanted d ≡ false = not_true (slanted d) (and_left (not (slanted d)) (step B d s) l.1) in
+    let k : slanted d ≡ false = not-true (slanted d) (and_left (not (slanted d)) (step B d s) l.1) in
     rw k (let e = no_diagonal B (go d s) ds l.2 in omega arith)
 
 -- a tame walk of a truck has the length that its ends are apart

@@ -1,12 +1,12 @@
 -- The laws of the order of lengths, each over all pairs of natural numbers. Assumes nothing.
---     ≼_refl ≼-antisym ≼_trans ≼-or-≻                a total order, and equal worth means the same pair
---     ≺-irrefl ≺-trans ≺-≼-trans ≼-≺-trans trichotomy     the strict order
---     ≺-worth-iff, ≼-by-worth, ≺-by-worth            the order as one of whole numbers n·a + m·b: how an order is shown by `omega`
---     weight, ≺-weight, ≼-weight                     the same with one pair of numerals, for fewer than 80,782 diagonal steps
---     ⊕-comm ⊕-assoc ⊕-zero ⊕-cancel ⊕-≺ ⊕-≼ ⊕-mono ⊕-mono-≺      sums
---     𝟎-least, straight-step, diagonal-step, ≼-both, ≺-straight, ≺-diagonal, steps-bounded, ≺-induction
---     over-straight, over-diagonal                   the signs first, then p² against 2q²
---     shorter-≺ .., compare-less .., decided         what the tests say
+--     ≼_refl ≼_antisym ≼_trans ≼_or-≻                a total order, and equal worth means the same pair
+--     ≺_irrefl ≺_trans ≺-≼_trans ≼-≺_trans trichotomy     the strict order
+--     ≺_worth_iff, ≼_by_worth, ≺_by_worth            the order as one of whole numbers n·a + m·b: how an order is shown by `omega`
+--     weight, ≺_weight, ≼_weight                     the same with one pair of numerals, for fewer than 80,782 diagonal steps
+--     ⊕_comm ⊕_assoc ⊕_zero ⊕_cancel ⊕-≺ ⊕-≼ ⊕_mono ⊕_mono-≺      sums
+--     𝟎_least, straight_step, diagonal_step, ≼_both, ≺_straight, ≺_diagonal, steps_bounded, ≺_induction
+--     over_straight, over_diagonal                   the signs first, then p² against 2q²
+--     shorter-≺ .., compare_less .., decided         what the tests say
 use Rattle.std.specs.Prelude.{ℕ, zero, suc, ◌+◌, ◌*◌, ◌-◌, ◌<◌, ◌≤◌, ◌≡◌, refl, ◌⊎◌, ◌↔◌, true, ℤ, pos, negsuc}
 use Rattle.std.proofs.Math.Path.{ap}
 use Rattle.std.proofs.Common.{ap₂, inl, inr, ⊎_elim, add_comm, add_assoc, add-zero, sub-eq-zero_of_le, mul-pos, mul-le-mul_left, mul-le-mul_right, le_refl, le_trans, le_antisymm, le_of_eq, le_of_lt, lt_irrefl, lt_of_not-le, not-le_of_lt, not-suc-le-zero, eq-zero-or-pos, ltb-true, lt-ltb, le-ltb}
@@ -301,14 +301,14 @@ over_diagonal x y h = omega (arith, times_zero (x.straight - y.straight) (sub-eq
 -- x has p straight steps over y, and y has q diagonal ones over x, at least one: p² against 2q² decides, and they are never equal
 module _ (x y : Len) (h : y.straight ≤ x.straight) (k : x.diagonal < y.diagonal) where
   -- where p² is less than 2q², x is less
-  pub squares-less :
+  pub squares_less :
       (x.straight - y.straight) * (x.straight - y.straight) < 2 * ((y.diagonal - x.diagonal) * (y.diagonal - x.diagonal)) → x ≺ y
-  squares-less l = record { less = omega (arith, over_straight x y (le_of_lt k), over_diagonal y x h) }
+  squares_less l = record { less = omega (arith, over_straight x y (le_of_lt k), over_diagonal y x h) }
 
   -- where it is not, x is more
-  pub squares-more :
+  pub squares_more :
       2 * ((y.diagonal - x.diagonal) * (y.diagonal - x.diagonal)) ≤ (x.straight - y.straight) * (x.straight - y.straight) → y ≺ x
-  squares-more l =
+  squares_more l =
       let most : y ≼ x = record { most = omega (arith, over_straight x y (le_of_lt k), over_diagonal y x h) } in
       ⊎_elim (λ (e : y ≡ x). absurd (let z = ap (λ (t : Len). t.diagonal) e in omega arith)) (λ s. s) (≼_split most)
 

@@ -1,8 +1,10 @@
 // Lengths of walks: pairs (a, b) of straight and diagonal steps, in the order of their values a + b√2.
+#![tactic(auto)]
+
 ghost use Rattle.std.specs.Prelude.{◌≡◌, ◌*◌, ltb};
 ghost use Rattle.lengths.specs.Lengths.{pair, compare_of, gap, octile_of, figure_of, len_of};
 
-#[derive(Drop)]
+#[derive(Clone, Copy)]
 pub struct Length {
     pub straight: u16,
     pub diagonal: u16,

@@ -40,8 +40,8 @@ pub cell_in : (w h x y : ℕ) → w * h ≤ 16384 → x < w → y < h → Cell w
 cell_in w h x y few l m = record { column = l; rows = omega (arith, mul-le-mul_right w m, suc-mul y w, mul_comm h w) }
 
 -- and so are those of a number
-pub cell_of : (w h c : ℕ) → w * h ≤ 16384 → c < w * h → Cell w (c % w) (c / w)
-cell_of w h c few l = cell_in w h (c % w) (c / w) few (mod-lt c (some w l)) ((div-lt_iff_lt-mul (some w l)).1 (rw (mul_comm h w) l))
+pub cell_of_lem : (w h c : ℕ) → w * h ≤ 16384 → c < w * h → Cell w (c % w) (c / w)
+cell_of_lem w h c few l = cell_in w h (c % w) (c / w) few (mod-lt c (some w l)) ((div-lt_iff_lt-mul (some w l)).1 (rw (mul_comm h w) l))
   where
     some : (w : ℕ) → c < w * h → 0 < w
     some zero l = absurd (omega (arith, zero-mul h))

@@ -1,4 +1,6 @@
 // The direct line: all its diagonal steps first, then its straight ones.
+#![tactic(auto)]
+
 ghost use Rattle.std.specs.Prelude.{◌≡◌, suc, ◌+◌, ◌<◌, ◌≤◌, length};
 ghost use Rattle.lengths.specs.Lengths.{len_of};
 ghost use Rattle.floor.specs.Board.{at, Free, dir_at, shift};

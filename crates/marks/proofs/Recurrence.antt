@@ -1,6 +1,6 @@
 -- A clearance by that of the next place in its direction. Assumes nothing.
 use Prim.Native.Nat.{ℕ, zero, suc, ◌+◌, ◌-◌, ◌≤◌, ◌<◌}
-use mathlib.Core.Bool.{true, false, ◌&&◌, and_false}
+use mathlib.Core.Bool.{true, false, ◌&&◌, and-false}
 use mathlib.Core.List.{List}
 use mathlib.Core.Logic.{◌⊎◌, inl, inr, ⊎_elim}
 use mathlib.Core.Path.{◌≡◌, refl, sym, ◌∙◌}
@@ -87,7 +87,7 @@ module _ (B : Board) (w : ℕ) (clear : List ℕ) (p : Place) (d : ℕ) where
           (B (go (dir_at d) p).x (go (dir_at d) p).y ≡ true) ⊎ (B (go (dir_at d) p).x (go (dir_at d) p).y ≡ false) →
           (corner B (go (dir_at d) p) ≡ true) ⊎ (corner B (go (dir_at d) p) ≡ false) → ClearanceAt B (dir_at d) p (by_next B w clear p d)
       by (inr b) g k = inl (b, next_none (rw b))
-      by (inl f) (inr b) k = inr (rw (next_none (rw (b, and_false))) (clearance_none B (dir_at d) p f b))
+      by (inl f) (inr b) k = inr (rw (next_none (rw (b, and-false))) (clearance_none B (dir_at d) p f b))
       by (inl f) (inl g) (inl k) = inr (rw (next_corner f g k) (clearance_one B (dir_at d) p f g k))
       by (inl f) (inl g) (inr k) =
           inr (rw (next_more f g k) (clearance_more B (dir_at d) p f _ k (clearance_of_free g (right g))))

@@ -1,6 +1,6 @@
 -- The masks of a floor's cells: of free ones, of those beside the cells of a mask, and of turning points. Assumes nothing.
 use Prim.Native.Nat.{ℕ, zero, suc, pred, ◌+◌, ◌-◌, ◌*◌, ◌/◌, ◌%◌, ◌<◌, ◌≤◌}
-use mathlib.Core.Bool.{Bool, false, not, ◌&&◌, ◌||◌, and_false, and_comm, and_assoc, and-or_distrib_left, or_assoc, or_comm}
+use mathlib.Core.Bool.{Bool, false, not, ◌&&◌, ◌||◌, and-false, and_comm, and_assoc, and-or_distrib_left, or_assoc, or_comm}
 use mathlib.Core.List.{List}
 use mathlib.Core.Path.{◌≡◌, refl, sym, ap, ap₂, ◌∙◌}
 use native.Mathlib.Decide.{dec_lt}
@@ -39,7 +39,7 @@ module _ (w h : ℕ) (words : List ℕ) where
   pub free_beyond : (x y : ℕ) → w < x → false ≡ board w h words x y
   unfolding board
   free_beyond x zero l = refl
-  free_beyond x (suc y) l = rw (← free_in_past w (row_of w words y) x l, and_false)
+  free_beyond x (suc y) l = rw (← free_in_past w (row_of w words y) x l, and-false)
 
   -- a bit of a row's words is 0 where the cell is free, and 1 past the last cell
   bit_free_lem : Floor w h words → (x y : ℕ) → y < h → x < 64 * row_words w → bit_free (row_of w words y) x ≡ free_in w (row_of w words y) (suc x)

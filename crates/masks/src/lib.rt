@@ -1,5 +1,7 @@
 // Masks: 64 neighbouring cells of a row as one word, in which a bit is 1 where the cell has what is asked. Rows are padded: row y of the
 // floor is row y + 1 here, and row 0 is outside.
+#![tactic(auto)]
+
 ghost use Rattle.std.specs.Prelude.{◌&&◌, not, suc, ◌+◌, ◌*◌, ◌<◌, ◌≤◌, length, get_or};
 ghost use Rattle.floor.specs.Board.{E, W, corner, dir_at, go};
 ghost use Rattle.floor.specs.Words.{bit_clear, board, Floor};

@@ -1,7 +1,7 @@
 -- Counting the turning points that are shown from a cell: each is shown once, so what is counted is as many as there are. Assumes nothing.
 use Prim.Native.Nat.{ℕ, suc, ◌+◌, ◌/◌, ◌%◌, ◌≤◌, ◌<◌}
 use mathlib.Core.List.{List, []}
-use mathlib.Core.Logic.{◌⊎◌, inl, inr, ⊎_elim}
+use mathlib.Core.Logic.{inl, inr, ⊎_elim}
 use mathlib.Core.Path.{◌≡◌, refl, ◌∙◌, ap}
 use native.Mathlib.Decide.{ℕ_discrete}
 use native.Mathlib.Omega.{arith}

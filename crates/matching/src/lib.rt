@@ -1,5 +1,7 @@
 // The plan of a floor: recognised. The neighbours of each turning point are found anew, looked up among those that the list has, and counted:
 // each is shown once, so no memory is needed for them.
+#![tactic(auto)]
+
 ghost use Rattle.std.specs.Prelude.{true, ◌≡◌, ◌*◌, ◌<◌, ◌≤◌, length};
 ghost use Rattle.floor.specs.Refusals.{Tells};
 ghost use Rattle.floor.specs.Words.{Floor};
@@ -13,7 +15,7 @@ ghost use Rattle.fields.specs.Fields.{Sweepable};
 ghost use Rattle.matching.specs.Matching.{Started, RowsMatch, TallyShown, Tallied, FieldTallied};
 
 // How many turning points were shown, all of them listed; or one is not listed.
-#[derive(Drop)]
+#[derive(Clone, Copy)]
 enum Tally {
     Of(usize),
     Missing,
@@ -209,7 +211,7 @@ pub fn matches(
     neighbours: &[u16],
 ) -> bool
     requires { Floor w h words.now }
-    ensures { Tells (Fits w h words.now (record { clear = clear.entry.now; corners = corners.now; starts = starts.now; neighbours = neighbours.now })) result }
+    ensures { Tells (Fits w h words.now (record { clear = clear.now; corners = corners.now; starts = starts.now; neighbours = neighbours.now })) result }
 {
     if plan::MAX_CORNERS < corners.len() {
         return false;

@@ -32,11 +32,11 @@ module _ {C S E : List ℕ} {t : Trip} {W : List ℕ} (u j : ℕ) {r : ℕ} (rea
   link_inside n = omega (arith, link_fits (chart C S E t W) ready.fair u j there)
 
   -- It leads to a place, and that place has its offer.
-  pub follow-some :
+  pub follow_some :
       {T W' T' : List ℕ} {d a b far : ℕ} → (r ≡ 0 → ⊥) → a ≡ cell_at C t u → b ≡ cell_at C t (r - 1) → far ≡ apart t.w a b →
       Offer C t W T (r - 1) (d + far) W' T' →
       Follow C S E t W T u d j W' T'
-  follow-some n qa qb qf o = record {
+  follow_some n qa qb qf o = record {
     some = λ v e. let z : r - 1 ≡ v = omega arith in rw (qf, qa, qb, z) at o;
     none = λ z. absurd (n (is ∙ z));
     inside = link_fits (chart C S E t W) ready.fair u j there;
@@ -55,10 +55,10 @@ pub followed_none : {C S E : List ℕ} {t : Trip} {W T : List ℕ} (u d : ℕ) �
 followed_none u d right = record { offered = offered_none _ u d _; settled = refl; left = left_same _ _; right = right; tree = refl }
 
 -- One link more.
-followed-more :
+followed_more :
     {C S E : List ℕ} {t : Trip} {W₀ T₀ W T W' T' : List ℕ} {u d j : ℕ} → Ready C S E t W → 0 < d → Followed C S E t W₀ T₀ u d j W T → Follow C S E t W T u d j W' T' →
     Followed C S E t W₀ T₀ u d (j + 1) W' T'
-followed-more {C} {S} {E} {t} {W₀} {T₀} {W} {T} {W'} {T'} {u} {d} {j} ready pos f l = go (link_at (chart C S E t W) u j) refl
+followed_more {C} {S} {E} {t} {W₀} {T₀} {W} {T} {W'} {T'} {u} {d} {j} ready pos f l = go (link_at (chart C S E t W) u j) refl
   where
     o : Offered (chart C S E t W) u d j (column_of (t.k + 2) W₀ Label) (column_of (t.k + 2) W Label)
     o = rw (chart_same C S E t f.left) f.offered
@@ -112,7 +112,7 @@ module _ {C S E : List ℕ} {t : Trip} {W₁ T₁ : List ℕ} {u d i j : ℕ} {W
         right = k.1;
         sized = k.0.sized ∙ f.sized;
         tree = k.2 ∙ f.tree;
-        followed = λ W₀ T₀ g. followed-more f.ready pos (f.followed W₀ T₀ g) l;
+        followed = λ W₀ T₀ g. followed_more f.ready pos (f.followed W₀ T₀ g) l;
       }
 
 -- ---- the neighbours of a corner
@@ -122,13 +122,13 @@ module _ {C S E : List ℕ} {t : Trip} {W Q : List ℕ} (u j : ℕ) (ready : Rea
   to = get_or E (get_or S u 0 + j) 0
 
   -- The arc's offer is made: the link has been followed.
-  pub arc-followed :
+  pub arc_followed :
       {T W' T' : List ℕ} {d a b v far : ℕ} → a ≡ cell_at C t u → b ≡ to → v ≡ get_or Q b 0 → far ≡ apart t.w a b → Offer C t W T v (d + far) W' T' →
       Follow C S E t W T u d j W' T'
-  arc-followed qa qb qv qf o =
+  arc_followed qa qb qv qf o =
       let z : index_of C to + 1 - 1 ≡ index_of C to = omega arith in
       let v-is = qv ∙ ap (λ (x : ℕ). get_or Q x 0) qb ∙ arc_index u j ready indexed corner there ∙ sym z in
-      follow-some u j ready (omega (arith, there, arcs_most C S E t W u corner)) (arc_link u j ready indexed corner there) (λ q. omega arith) qa (qb ∙ sym (is_cell u j ready indexed corner there) ∙ ap (cell_at C t) (sym z)) qf (rw v-is at o)
+      follow_some u j ready (omega (arith, there, arcs_most C S E t W u corner)) (arc_link u j ready indexed corner there) (λ q. omega arith) qa (qb ∙ sym (is_cell u j ready indexed corner there) ∙ ap (cell_at C t) (sym z)) qf (rw v-is at o)
 
 -- ---- the links that flags tell of
 module _ {C S E : List ℕ} {t : Trip} {W : List ℕ} {u : ℕ} {f : Flags} (i : ℕ) (ready : Ready C S E t W) (inside : u < t.k + 2) (is : FlagsOf t u f) (there : i < f.count) where
@@ -137,13 +137,13 @@ module _ {C S E : List ℕ} {t : Trip} {W : List ℕ} {u : ℕ} {f : Flags} (i :
   flag = get_or W (f.at + f.apart * i) 0
 
   -- It is set and its offer is made: the link has been followed.
-  pub flag-followed :
+  pub flag_followed :
       {T W' T' : List ℕ} {d a b far : ℕ} → 0 < flag → a ≡ cell_at C t u → b ≡ cell_at C t (f.to + i) → far ≡ apart t.w a b → Offer C t W T (f.to + i) (d + far) W' T' →
       Follow C S E t W T u d (first_told S t.k u + i) W' T'
-  flag-followed h qa qb qf o =
+  flag_followed h qa qb qf o =
       let z : f.to + i + 1 - 1 ≡ f.to + i = omega arith in
       let to = sym (rw (lt-ltb 0 flag h) at (tells i ready inside is there).link) in
-      follow-some u (first_told S t.k u + i) ready (told_there i ready inside is there) to (λ q. omega arith) qa (qb ∙ ap (cell_at C t) (sym z)) qf (rw (sym z) at o)
+      follow_some u (first_told S t.k u + i) ready (told_there i ready inside is there) to (λ q. omega arith) qa (qb ∙ ap (cell_at C t) (sym z)) qf (rw (sym z) at o)
 
   -- It is not set, and nothing changes.
   pub flag_passed : {T : List ℕ} {d : ℕ} → flag ≡ 0 → Follow C S E t W T u d (first_told S t.k u + i) W T

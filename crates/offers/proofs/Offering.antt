@@ -13,15 +13,15 @@ use Rattle.places.specs.Places.{cell_at}
 use Rattle.places.proofs.Columns.{only_left, left_same}
 use Rattle.offers.specs.Tree.{Right}
 use Rattle.offers.specs.Offers.{lowered, Offer}
-use Rattle.offers.proofs.Trees.{key_fits, right-label, right_still}
+use Rattle.offers.proofs.Trees.{key_fits, right_label, right_still}
 use Rattle.offers.proofs.Entries.{Lowered, lowered_is}
 
 -- An offer that is no news.
-pub offer-kept :
+pub offer_kept :
     {C : List ℕ} {t : Trip} {W T : List ℕ} {v new : ℕ} → lowered (get_or (column_of (t.k + 2) W Label) v 0) new ≡ get_or (column_of (t.k + 2) W Label) v 0 →
     Right C t W T →
     Offer C t W T v new W T
-offer-kept {C} {t} {W} {T} {v} e r = record {
+offer_kept {C} {t} {W} {T} {v} e r = record {
   label = sym (ap (set (column_of (t.k + 2) W Label) v) e ∙ set-get_or (column_of (t.k + 2) W Label) v 0);
   settled = refl;
   left = left_same _ _;
@@ -61,7 +61,7 @@ module _ {C : List ℕ} {t : Trip} {W T W' : List ℕ} {v new old best settled :
     pub offer_climbed : {T' : List ℕ} → Changed (t.k + 2) T v key T' → Offer C t W T v new W' T'
     offer_climbed c =
         let q : key ≡ key_of best (cell_at C t v) v = rw place at made in
-        offer_of (right-label right room h (omega (arith, before)) low.some s (rw q at c)) c.sized
+        offer_of (right_label right room h (omega (arith, before)) low.some s (rw q at c)) c.sized
 
   -- The place is settled: no key comes into the tree.
   pub offer_settled : (settled ≡ 0 → ⊥) → Offer C t W T v new W' T

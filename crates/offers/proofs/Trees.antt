@@ -72,12 +72,12 @@ module _ {C : List ℕ} {t : Trip} where
 
     module _ {W' : List ℕ} where
       -- A new label of a place that is not settled, with its key in the tree.
-      pub right-label :
+      pub right_label :
           {v best : ℕ} {T' : List ℕ} → 6 * (t.k + 2) ≤ length W → v < t.k + 2 → get_or (column_of (t.k + 2) W Settled) v 0 ≤ 0 → 0 < best →
           Put (t.k + 2) W Label v best W' →
           Changed (t.k + 2) T v (key_of best (cell_at C t v) v) T' →
           Right C t W' T'
-      right-label {v} {best} {T'} room h free pos s c = record {
+      right_label {v} {best} {T'} room h free pos s c = record {
         small = right.small;
         keyed = c.keyed;
         leaf = λ p l. rw (s.here, s.only.others Settled (λ q. omega arith)) (go p l (ℕ_discrete p v));
@@ -120,10 +120,10 @@ module _ {C : List ℕ} {t : Trip} where
           go p l (no m) = right.leaf p l ∙ sym (leaf_label D F (cell_at C t) v best p m)
 
       -- A place that is settled, with nobody in its leaf.
-      pub right-settled :
+      pub right_settled :
           {v : ℕ} {T' : List ℕ} → 6 * (t.k + 2) ≤ length W → v < t.k + 2 → Put (t.k + 2) W Settled v 1 W' → Changed (t.k + 2) T v nobody T' →
           Right C t W' T'
-      right-settled {v} {T'} room h s c = record {
+      right_settled {v} {T'} room h s c = record {
         small = right.small;
         keyed = c.keyed;
         leaf = λ p l. rw (s.here, s.only.others Label (λ q. omega arith)) (go p l (ℕ_discrete p v));

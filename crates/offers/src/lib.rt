@@ -1,5 +1,7 @@
 // Offers: a place offers each place that it is linked to the way by itself. An offer may lower a label in the work space
 // that the caller lends; the tree of keys, which the caller lends too, is kept right for the places that wait.
+#![tactic(auto)]
+
 ghost use Rattle.std.specs.Prelude.{◌≡◌, ◌+◌, ◌<◌, ◌≤◌};
 ghost use Rattle.places.specs.Places.{Indexed};
 ghost use Rattle.places.specs.Chart.{chart, link_count, Ready};

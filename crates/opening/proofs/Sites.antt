@@ -67,7 +67,7 @@ planned w h words lent left r o z a b = made (o.done z)
         record {
           floor = accepted w h words (first_zero (floor_rows w h words) (lent_rows w h words (length lent.clear) (length lent.corners) (length lent.starts) ++ last_row w h words (length lent.neighbours)) r.code (omega arith, (omega arith, (omega arith, tt))) z o.number);
           own = subst (PlanOf w h words) (sym same) d.is_plan;
-          corners = omega (arith, d.corner_count_lem, fits_in p.corners lent.corners left.corners 2048 d.corners b.corners a.corners);
+          corners = omega (arith, d.corners_told, fits_in p.corners lent.corners left.corners 2048 d.corners b.corners a.corners);
           arcs = omega (arith, d.arc_count, fits_in p.neighbours lent.neighbours left.neighbours 32768 d.neighbours b.neighbours a.neighbours);
           free = d.free_count;
         }
@@ -79,10 +79,10 @@ planned w h words lent left r o z a b = made (o.done z)
         clear = first_are d.plan.clear lent.clear left.clear (4 * (w * h)) d.clear d.is_plan.marks.four_each
 
         corners : take r.corners left.corners ≡ d.plan.corners
-        corners = first_are d.plan.corners lent.corners left.corners r.corners d.corners (sym d.corner_count_lem)
+        corners = first_are d.plan.corners lent.corners left.corners r.corners d.corners (sym d.corners_told)
 
         starts : take (r.corners + 1) left.starts ≡ d.plan.starts
-        starts = first_are d.plan.starts lent.starts left.starts (r.corners + 1) d.starts (omega (arith, d.is_plan.links.one_more, d.corner_count_lem))
+        starts = first_are d.plan.starts lent.starts left.starts (r.corners + 1) d.starts (omega (arith, d.is_plan.links.one_more, d.corners_told))
 
         neighbours : take r.arcs left.neighbours ≡ d.plan.neighbours
         neighbours = first_are d.plan.neighbours lent.neighbours left.neighbours r.arcs d.neighbours (sym d.arc_count)

@@ -12,8 +12,8 @@ pub record Ground : Type 0 where
   pub plan : Lists
 
 -- a surveyed floor, by its parts
-abbrev pub ground : ℕ → ℕ → List ℕ → List ℕ → List ℕ → List ℕ → List ℕ → Ground
-ground w h words clear corners starts neighbours = record { w = w; h = h; words = words; plan = lists clear corners starts neighbours }
+abbrev pub surveyed : ℕ → ℕ → List ℕ → List ℕ → List ℕ → List ℕ → List ℕ → Ground
+surveyed w h words clear corners starts neighbours = record { w = w; h = h; words = words; plan = lists clear corners starts neighbours }
 
 -- the floor is accepted, and the plan is its own and within its limits
 pub record Walkable (g : Ground) : Type 0 where

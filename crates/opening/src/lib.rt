@@ -1,11 +1,13 @@
 // What stands before the trips in the text that floorwalk takes: the sizes, the map and its survey.
+#![tactic(auto)]
+
 ghost use Rattle.survey.specs.Survey.{lists};
 ghost use Rattle.opening.specs.Openings.{SizesAt, Lent, Surveyable, FloorOpened, OpenedTo};
 
 use reading::{Rows, Two};
 
 // A surveyed floor: its sizes, how many turning points and arcs its plan has, where the text goes on, and how many bytes of output there are.
-#[derive(Drop)]
+#[derive(Clone, Copy)]
 pub struct Site {
     pub w: usize,
     pub h: usize,
@@ -16,7 +18,7 @@ pub struct Site {
 }
 
 // A floor to walk on; or a refusal, which has so many bytes.
-#[derive(Drop)]
+#[derive(Clone, Copy)]
 pub enum Opened {
     Floor(Site),
     Refused(usize),

@@ -154,9 +154,9 @@ module _ (C : List ℕ) (up : Ascending C) where
     }
 
     -- So the half that is left is known by whether the middle entry is less.
-    pub ends-half :
+    pub ends_half :
         {x c r : ℕ} → x ≡ min cell 65536 → c ≡ get_or C (lo + half - 1) 0 → c < 65536 → Gain c x half r → Ends C cell (lo + r) (lo + r + (len - half))
-    ends-half {x} {c} {r} most is fits g = go (dec_lt c x)
+    ends_half {x} {c} {r} most is fits g = go (dec_lt c x)
       where
         go : Dec (c < x) → Ends C cell (lo + r) (lo + r + (len - half))
         go (yes l) = rw (g.less l) (ends_up (omega arith))
@@ -174,9 +174,9 @@ pub indexing_first : (C Q : List ℕ) → Indexing C Q 0 Q
 indexing_first C Q = record { high = omega arith; sized = refl; index = λ j h. absurd (omega arith) }
 
 -- One more is written, where no other has its cell.
-pub indexing-more :
+pub indexing_more :
     {C Q₀ Q : List ℕ} {i cell : ℕ} → Ascending C → Indexing C Q₀ i Q → i < length C → cell ≡ get_or C i 0 → cell < length Q → Indexing C Q₀ (i + 1) (set Q cell i)
-indexing-more {C} {Q₀} {Q} {i} {cell} up x h is room = record {
+indexing_more {C} {Q₀} {Q} {i} {cell} up x h is room = record {
   high = omega arith;
   sized = length-set Q cell i ∙ x.sized;
   index = λ j l. go j l (ℕ_discrete j i);

@@ -7,7 +7,7 @@ use native.Mathlib.Nat.{mul-le-mul_right}
 use native.Mathlib.Omega.{arith}
 use native.Mathlib.Decide.{dec_lt}
 use lib.ListN.{length, get_or, take, drop, set, length-set, length-take, length-drop}
-use lib.Seq.{get_or_take, get_or-drop, take-set-le, take-set-lt, drop-set-lt, drop-set-add}
+use lib.Seq.{get_or-take, get_or-drop, take-set-le, take-set-lt, drop-set-lt, drop-set-add}
 use Rattle.places.specs.Columns.{column_of, Inside, Only, Put, Left}
 
 -- One column more still ends within the columns.
@@ -27,7 +27,7 @@ module _ (n : ℕ) (W : List ℕ) (c : ℕ) where
   -- What stands in a column is read at its place in the work space.
   pub column_at : (i : ℕ) → i < n → get_or (column_of n W c) i 0 ≡ get_or W (c * n + i) 0
   unfolding column_of
-  column_at i h = get_or_take n (drop (c * n) W) i 0 h ∙ get_or-drop (c * n) W i 0
+  column_at i h = get_or-take n (drop (c * n) W) i 0 h ∙ get_or-drop (c * n) W i 0
 
   module _ (i v : ℕ) (inside : Inside n W c i) where
     -- A store to one column leaves every other.

@@ -2,6 +2,8 @@
 // unless they are corners themselves. What a search finds of them is in a work space that the caller lends: six columns of
 // k + 2 entries, where 0 means nothing, so that zeros are an empty search. The caller lends a table besides, which tells
 // the index of a neighbour: it serves the search and the way back.
+#![tactic(auto)]
+
 ghost use Rattle.std.specs.Prelude.{◌≡◌, ℕ, ◌+◌, ◌<◌, ◌≤◌, min, length, get_or};
 ghost use Rattle.lengths.specs.Lengths.{octile_of};
 ghost use Rattle.lengths.specs.Laws.{weight};
@@ -23,7 +25,7 @@ pub const NEXT: usize = 5;
 
 // What a search is about: the floor's width, how many corners there are, start and goal by cell number, and the
 // places that stand for them.
-#[derive(Drop)]
+#[derive(Clone, Copy)]
 pub struct Trip {
     pub w: usize,
     pub k: usize,
@@ -208,7 +210,7 @@ pub fn link_count(starts: &[u16], k: usize, u: usize) -> usize
 
 // The flags that tell of links of a place: `count` of them, the first at entry `at` of the work space, each `apart` entries after the
 // one before it. Flag i tells of a link to the place `to` + i.
-#[derive(Drop)]
+#[derive(Clone, Copy)]
 pub struct Flags {
     pub at: usize,
     pub apart: usize,

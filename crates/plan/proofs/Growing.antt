@@ -1,18 +1,17 @@
 -- How the neighbours of one turning point grow in the list, as a sweep shows them. Assumes nothing.
-use Prim.Native.Nat.{ℕ, zero, suc, ◌+◌, ◌-◌, ◌*◌, ◌/◌, ◌%◌, ◌≤◌, ◌<◌}
-use mathlib.Core.Bool.{true, false, Bool}
-use mathlib.Core.List.{List, [], ◌∷◌, ◌++◌}
-use mathlib.Core.Logic.{◌⊎◌, inl, inr, ⊎_elim}
+use Prim.Native.Nat.{ℕ, zero, suc, ◌+◌, ◌-◌, ◌≤◌, ◌<◌}
+use mathlib.Core.List.{List, ◌++◌}
+use mathlib.Core.Logic.{inl, inr, ⊎_elim}
 use mathlib.Core.Path.{◌≡◌, refl, sym, ◌∙◌, ap, subst}
 use native.Mathlib.Nat.{le_trans}
 use native.Mathlib.Omega.{arith}
 use lib.ListN.{length, get_or, take, drop, length-append, length-drop, get_or-append}
-use lib.Seq.{take_at, drop_at, get_or_take, get_or-drop, get_or-append-add, length-take-le}
+use lib.Seq.{take_at, drop_at, get_or-take, get_or-drop, get_or-append-add, length-take-le}
 use Rattle.corners.specs.Lists.{part}
-use Rattle.plan.specs.Rising.{In, Rising, insertion}
+use Rattle.plan.specs.Rising.{In, insertion}
 use Rattle.plan.specs.Inserting.{spliced, Inserted}
 use Rattle.plan.specs.Linking.{PutShown, Finding, Crowded, Grown}
-use Rattle.fields.specs.Fields.{ShownIn, Seen}
+use Rattle.fields.specs.Fields.{Seen}
 use Rattle.plan.specs.declared.Filled.{Filled}
 use Rattle.plan.specs.declared.Filled.TheVariants.{To, NoRoom}
 use Rattle.plan.proofs.Insertions.{part_length}
@@ -32,7 +31,7 @@ module _ (list : List ℕ) (from : ℕ) (xs : List ℕ) (l : from + length xs �
 
   -- before xs each entry is as it was
   spliced_before : (i : ℕ) → i < from → get_or (spliced list from xs) i 0 ≡ get_or list i 0
-  spliced_before i m = get_or-append (take from list) _ 0 i (rw front m) ∙ get_or_take from list i 0 m
+  spliced_before i m = get_or-append (take from list) _ 0 i (rw front m) ∙ get_or-take from list i 0 m
 
   -- behind xs each entry is as it was
   spliced_behind : (i : ℕ) → from + length xs ≤ i → get_or (spliced list from xs) i 0 ≡ get_or list i 0

@@ -1,6 +1,6 @@
 -- A number put in its place, by the place that a search found. Assumes nothing.
 use Prim.Native.Nat.{ℕ, zero, suc, ◌+◌, ◌-◌, ◌≤◌, ◌<◌}
-use mathlib.Core.Bool.{true, false}
+use mathlib.Core.Bool.{false}
 use mathlib.Core.List.{List, [], ◌∷◌, ◌++◌, append_assoc}
 use mathlib.Core.Logic.{◌⊎◌, inl, inr}
 use mathlib.Core.Path.{◌≡◌, refl, sym, ◌∙◌, ap, ap₂}
@@ -8,7 +8,7 @@ use native.Mathlib.Nat.{suc-sub-suc, sub-zero}
 use native.Mathlib.Omega.{arith}
 use lib.Dec.{ltb, eqb}
 use lib.ListN.{length, get_or, take, drop, set, length-append, length-take, length-drop, take-append-drop, get_or-append}
-use lib.Seq.{take-nil, drop-nil, take-take, take-add, drop-drop, get_or_take, get_or-drop, take-suc, set_at, length-take-le, drop-cons}
+use lib.Seq.{take-nil, take-take, take-add, drop-drop, get_or-take, get_or-drop, take-suc, set_at, length-take-le, drop-cons}
 use borrow.Author.Tests.{lt-ltb, le-ltb, eq-eqb, ne_eqb}
 use Rattle.corners.specs.Lists.{part}
 use Rattle.plan.specs.Rising.{insertion}
@@ -56,7 +56,7 @@ module _ (list : List ℕ) (from m : ℕ) (l : from ≤ m) (k : m ≤ length lis
 
   -- entry i of the part is the list's entry i places on from `from`
   pub part_at : (i : ℕ) → i < m - from → get_or (part list from m) i 0 ≡ get_or list (from + i) 0
-  part_at i h = rw (get_or_take (m - from) (drop from list) i 0 h, get_or-drop)
+  part_at i h = rw (get_or-take (m - from) (drop from list) i 0 h, get_or-drop)
 
   -- the list is spliced with its own part
   pub spliced_self : spliced list from (part list from m) ≡ list
@@ -180,7 +180,7 @@ shift_step xs rest (suc i) to p l m =
     value : get_or (take (suc (suc i)) xs ++ (part xs (suc i) to ++ rest)) i 0 ≡ get_or xs i 0
     value =
         get_or-append (take (suc (suc i)) xs) (part xs (suc i) to ++ rest) 0 i (rw (length-take-le (suc (suc i)) xs (omega arith)) (omega arith))
-        ∙ get_or_take (suc (suc i)) xs i 0 (omega arith)
+        ∙ get_or-take (suc (suc i)) xs i 0 (omega arith)
 
     -- the entries from the one before j on are that one and those from j on
     moved : part xs i to ≡ get_or xs i 0 ∷ part xs (suc i) to

@@ -7,7 +7,7 @@ use mathlib.Core.Path.{◌≡◌, refl, sym, ◌∙◌, ap, ap₂, subst}
 use native.Mathlib.Nat.{le_trans}
 use native.Mathlib.Omega.{arith}
 use lib.ListN.{length, get_or, take, drop, set, length-set, length-append, length-drop, get_or-append}
-use lib.Seq.{drop-cons, drop-set-lt, ext_get_or, get_or_take, get_or-drop, get_or-append-add, length-take-le}
+use lib.Seq.{drop-cons, drop-set-lt, ext_get_or, get_or-take, get_or-drop, get_or-append-add, length-take-le}
 use Rattle.ground.specs.Kind.{walkers}
 use Rattle.corners.specs.Lists.{part, written}
 use Rattle.corners.specs.Corners.{corner_cell, corner_cells}
@@ -34,7 +34,7 @@ module _ (ns list₀ list exit : List ℕ) (k : ℕ) (room : length ns ≤ lengt
   first_kept =
       let long = length-take-le (length ns) exit (le_trans g.later inside) in
       ext_get_or 0 _ _ long (λ i l. let m : i < length ns = rw long at l in
-      get_or_take (length ns) exit i 0 m ∙ g.before i m ∙ ap (λ (xs : List ℕ). get_or xs i 0) are ∙ get_or-append ns (drop (length ns) list₀) 0 i m)
+      get_or-take (length ns) exit i 0 m ∙ g.before i m ∙ ap (λ (xs : List ℕ). get_or xs i 0) are ∙ get_or-append ns (drop (length ns) list₀) 0 i m)
 
   -- what was lent stands behind them
   lent_behind : (i : ℕ) → length ns ≤ i → get_or list i 0 ≡ get_or list₀ i 0

@@ -3,11 +3,11 @@
 use Prim.Native.Nat.{ℕ, zero, suc, ◌+◌, ◌-◌, ◌≤◌, ◌<◌}
 use mathlib.Core.List.{List, [], ◌∷◌, ◌++◌}
 use mathlib.Core.Path.{◌≡◌, refl, sym, ◌∙◌, ap, ap₂, subst, subst₂}
-use native.Mathlib.Decide.{ℕ_discrete, dec_le}
+use native.Mathlib.Decide.{ℕ_discrete}
 use native.Mathlib.Nat.{le_trans}
 use native.Mathlib.Omega.{arith}
-use lib.ListN.{length, get_or, take, drop, length-append, length-take, length-drop, take-append-drop, get_or-append}
-use lib.Seq.{take-suc, take_all, take-append-le, drop-append-le, drop-append_seam, get_or_take, get_or_at, length-take-le}
+use lib.ListN.{length, get_or, take, drop, length-append, length-drop, take-append-drop, get_or-append}
+use lib.Seq.{take-suc, take_all, take-append-le, drop-append-le, drop-append_seam, get_or-take, get_or_at, length-take-le}
 use Rattle.ground.specs.Kind.{Kind}
 use Rattle.corners.specs.Lists.{part, Picked}
 use Rattle.plan.specs.Plan.{LinkedCells, LinksTo}
@@ -101,7 +101,7 @@ module _ (K : Kind) (w h : ℕ) (words corners : List ℕ) where
     where
       -- the starts up to n are the same
       same : (k : ℕ) → k ≤ n → get_or (take (suc n) starts) k 0 ≡ get_or starts k 0
-      same k m = get_or_take (suc n) starts k 0 (omega arith)
+      same k m = get_or-take (suc n) starts k 0 (omega arith)
 
       -- none of them is above the last
       below : (k : ℕ) → k ≤ n → get_or starts k 0 ≤ get_or starts n 0

@@ -7,7 +7,7 @@ use mathlib.Core.Path.{◌≡◌, refl, sym, ap, subst}
 use native.Mathlib.Decide.{ℕ_discrete}
 use native.Mathlib.Omega.{arith}
 use Rattle.corners.specs.Lists.{select, Picked, none, taken, passed}
-use Rattle.plan.specs.Rising.{In, Above, Rising}
+use Rattle.plan.specs.Rising.{In, Rising}
 use Rattle.plan.proofs.Risings.{all_above, rising_same, above_in}
 
 -- what stands in a list is decided by looking

@@ -1,5 +1,5 @@
 -- What putting a neighbour in its place does to the list. These are states of code.
-use Rattle.std.specs.Prelude.{ℕ, suc, ◌+◌, ◌-◌, ◌≤◌, ◌<◌, List, ◌++◌, ◌⊎◌, ◌≡◌, length, get_or, take, drop}
+use Rattle.std.specs.Prelude.{ℕ, suc, ◌+◌, ◌≤◌, ◌<◌, List, ◌++◌, ◌⊎◌, ◌≡◌, length, get_or, take, drop}
 use Rattle.corners.specs.Lists.{part}
 use Rattle.plan.specs.Rising.{insertion}
 use Rattle.plan.specs.declared.Filled.{Filled}

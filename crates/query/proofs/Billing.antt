@@ -42,10 +42,10 @@ select_counts f (suc n) = by (true_or_false (f n)) (select_counts f n)
 
 module _ (a : Asked) where
   -- the plan's turning points are as many as the floor's, where the plan is the floor's own
-  pub corners-counted :
+  pub corners_counted :
       Fits a.w a.h a.words a.plan →
       Counts (λ c. corner (board a.w a.h a.words) (place_of a.w c) ≡ true) (below (a.w * a.h)) (length a.plan.corners)
-  corners-counted f =
+  corners_counted f =
       subst
       (λ (cs : List ℕ).
       Counts (λ c. corner (board a.w a.h a.words) (place_of a.w c) ≡ true) (below (a.w * a.h)) (length cs))
@@ -58,12 +58,12 @@ module _ (a : Asked) where
     where
       billed : Fits a.w a.h a.words a.plan → Billed a r.effort → r.effort ≤ length a.plan.corners + 2
       billed f (inl b) = let e = b.1 in omega arith
-      billed f (inr b) = found_bound a.w a.h a.words (cell_of_start a) (cell_of_goal a) (corners-counted f) b.1
+      billed f (inr b) = found_bound a.w a.h a.words (cell_of_start a) (cell_of_goal a) (corners_counted f) b.1
 
       bound : Fits a.w a.h a.words a.plan → r.effort ≤ length a.plan.corners + 2
       bound f =
           ⊎_elim (λ z. billed f (o.found (inl z)).billed)
-          (⊎_elim (λ z. lost_bound a.w a.h a.words (cell_of_start a) (cell_of_goal a) (corners-counted f) (o.lost z).1)
+          (⊎_elim (λ z. lost_bound a.w a.h a.words (cell_of_start a) (cell_of_goal a) (corners_counted f) (o.lost z).1)
           (λ z. billed f (o.found (inr z)).billed))
           k
 

@@ -47,9 +47,9 @@ in_largest c (x ∷ xs) (inl e) = omega arith
 in_largest c (x ∷ xs) (inr i) = omega (arith, in_largest c xs i)
 
 -- the four kinds of number: done, refused, no walk and no room
-pub code-kind :
+pub code_kind :
     (c : ℕ) → In c (0 ∷ 1 ∷ 2 ∷ 3 ∷ 8 ∷ 9 ∷ 10 ∷ 11 ∷ 12 ∷ 13 ∷ []) → (c ≡ 0) ⊎ (((0 < c) × (c < 12)) ⊎ ((c ≡ 12) ⊎ (c ≡ 13)))
-code-kind c i = by (ℕ_discrete c 0) (le_or_lt 12 c) (ℕ_discrete c 12)
+code_kind c i = by (ℕ_discrete c 0) (le_or_lt 12 c) (ℕ_discrete c 12)
   where
     most : c ≤ 13
     most = in_largest c (0 ∷ 1 ∷ 2 ∷ 3 ∷ 8 ∷ 9 ∷ 10 ∷ 11 ∷ 12 ∷ 13 ∷ []) i
@@ -98,10 +98,10 @@ module _ (a : Asked) where
       ∙ sym q.there
 
   -- No second outcome satisfies the promise.
-  pub query-only :
+  pub query_only :
       {r r' : Answer} {route route' work work' : List ℕ} → QueryOutcome a r route work → QueryOutcome a r' route' work' →
       (r ≡ r') × (route ≡ route') × (work ≡ work')
-  query-only {r} {r'} {route} {route'} {work} {work'} p q = by (code-kind r.code (codes a r.code p.number))
+  query_only {r} {r'} {route} {route'} {work} {work'} p q = by (code_kind r.code (codes a r.code p.number))
     where
       same : r.code ≡ r'.code
       same = first_unique (query_rows a) r.code r'.code p.number q.number

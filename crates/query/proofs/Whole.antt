@@ -18,7 +18,7 @@ use Rattle.plan.specs.Rising.{In}
 use Rattle.effort.specs.Net.{Startable}
 use Rattle.line.specs.Cells.{after}
 use Rattle.chain.specs.Route.{cells_of}
-use Rattle.chain.proofs.Legal.{route-legal, route_cells_lem, route-ends, route-inside}
+use Rattle.chain.proofs.Legal.{route_legal, route_cells_lem, route_ends, route_inside}
 use Rattle.answering.specs.Asked.{Asked, cell_of_start, cell_of_goal}
 use Rattle.telling.specs.declared.Answer.{Answer}
 use Rattle.query.specs.Query.{QueryOutcome}
@@ -45,7 +45,7 @@ module _ (a : Asked) where
   query_walked {r} {route} o z =
       let f = o.found (inl z) in
       let v = o.route_written z in
-      let (ds, w, e, k) = route-legal a.w a.h a.words (cell_of_start a) (cell_of_goal a) trip v.is_route f.far f.shortest in
+      let (ds, w, e, k) = route_legal a.w a.h a.words (cell_of_start a) (cell_of_goal a) trip v.is_route f.far f.shortest in
       let n : length v.cells ≡ cells_of f.far =
       route_cells_lem a.w a.h a.words (cell_of_start a) (cell_of_goal a) trip v.is_route f.far f.shortest in
       record {
@@ -55,8 +55,8 @@ module _ (a : Asked) where
         shortest = λ ws x. subst (λ (l : Len). l ≼ len ws) (sym e) (f.shortest.least ws x);
         cells = v.cells;
         visited = k;
-        ends = route-ends a.w a.h a.words (cell_of_start a) (cell_of_goal a) trip v.is_route f.far f.shortest;
-        inside = route-inside a.w a.h a.words (cell_of_start a) (cell_of_goal a) trip v.is_route f.far f.shortest;
+        ends = route_ends a.w a.h a.words (cell_of_start a) (cell_of_goal a) trip v.is_route f.far f.shortest;
+        inside = route_inside a.w a.h a.words (cell_of_start a) (cell_of_goal a) trip v.is_route f.far f.shortest;
         counted = n ∙ sym f.cells;
         there = v.there;
         same_room =

@@ -1,4 +1,6 @@
 // One question, whatever is lent: the refusals 1 to 11, then the answer.
+#![tactic(auto)]
+
 ghost use Rattle.floor.specs.Words.{Floor};
 ghost use Rattle.plan.specs.Plan.{Fits};
 ghost use Rattle.query.specs.Query.{QueryOutcome};
@@ -39,7 +41,7 @@ pub fn ask(
 ) -> Answer
     requires floor { Floor w h words.now }
     requires plan { Fits w h words.now (record { clear = clear.now; corners = corners.now; starts = starts.now; neighbours = neighbours.now }) }
-    ensures { QueryOutcome (record { w = w; h = h; words = words.now; plan = record { clear = clear.entry.now; corners = corners.now; starts = starts.now; neighbours = neighbours.now }; sx = sx; sy = sy; gx = gx; gy = gy; route = route.old; work = work.old }) result route.new work.new }
+    ensures { QueryOutcome (record { w = w; h = h; words = words.now; plan = record { clear = clear.now; corners = corners.now; starts = starts.now; neighbours = neighbours.now }; sx = sx; sy = sy; gx = gx; gy = gy; route = route.old; work = work.old }) result route.new work.new }
 {
     let code = refusing::ends_refusal(words, w, h, sx, sy, gx, gy, corners.len(), work.len());
     if code != 0 {
@@ -66,7 +68,7 @@ pub fn query(
     route: &mut [u16],
     work: &mut [u32],
 ) -> Answer
-    ensures { QueryOutcome (record { w = w; h = h; words = words.now; plan = record { clear = clear.entry.now; corners = corners.now; starts = starts.now; neighbours = neighbours.now }; sx = sx; sy = sy; gx = gx; gy = gy; route = route.old; work = work.old }) result route.new work.new }
+    ensures { QueryOutcome (record { w = w; h = h; words = words.now; plan = record { clear = clear.now; corners = corners.now; starts = starts.now; neighbours = neighbours.now }; sx = sx; sy = sy; gx = gx; gy = gy; route = route.old; work = work.old }) result route.new work.new }
 {
     let code = refusing::plan_refusal(words, w, h, clear, corners, starts, neighbours);
     if code != 0 {

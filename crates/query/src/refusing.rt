@@ -15,7 +15,7 @@ pub fn plan_refusal(
     starts: &[u16],
     neighbours: &[u16],
 ) -> u32
-    ensures { Judged w h words.now (record { clear = clear.entry.now; corners = corners.now; starts = starts.now; neighbours = neighbours.now }) result }
+    ensures { Judged w h words.now (record { clear = clear.now; corners = corners.now; starts = starts.now; neighbours = neighbours.now }) result }
 {
     let bad = floor::check_floor(words, w, h);
     if bad != 0 {

@@ -6,7 +6,7 @@ use native.Mathlib.Nat.{suc-mul}
 use native.Mathlib.Numerals.{add-one}
 use native.Mathlib.Omega.{arith}
 use lib.ListN.{length, get_or, take, drop, length-append, length-take, length-drop, get_or-append}
-use lib.Seq.{take_at, drop_at, drop-drop, get_or_take, get_or-drop, length-take-le}
+use lib.Seq.{take_at, drop_at, drop-drop, get_or-take, get_or-drop, length-take-le}
 use borrow.Author.Count.{below_more}
 use borrow.Rule.Slice.PartMut.{put_mid, Post-is}
 use Rattle.floor.specs.Words.{row_words, row_of, bit_free, bit_clear}
@@ -21,7 +21,7 @@ filled_none text from w words =
 
 -- a word of a row is one of the floor's
 pub row_word : (w : ℕ) (words : List ℕ) (y j : ℕ) → j < row_words w → get_or (row_of w words y) j 0 ≡ get_or words (y * row_words w + j) 0
-row_word w words y j l = get_or_take (row_words w) (drop (y * row_words w) words) j 0 l ∙ get_or-drop (y * row_words w) words j 0
+row_word w words y j l = get_or-take (row_words w) (drop (y * row_words w) words) j 0 l ∙ get_or-drop (y * row_words w) words j 0
 
 module _ (w y : ℕ) (words row : List ℕ) (long : length row ≡ row_words w) (room : y * row_words w + row_words w ≤ length words) where
   -- the words with another row y
@@ -42,7 +42,7 @@ module _ (w y : ℕ) (words row : List ℕ) (long : length row ≡ row_words w) 
 
   -- the words before row y are as they were
   put_before : (i : ℕ) → i < y * row_words w → get_or put i 0 ≡ get_or words i 0
-  put_before i l = get_or-append (take (y * row_words w) words) _ 0 i (rw front l) ∙ get_or_take (y * row_words w) words i 0 l
+  put_before i l = get_or-append (take (y * row_words w) words) _ 0 i (rw front l) ∙ get_or-take (y * row_words w) words i 0 l
 
   -- the words after row y are as they were
   put_after : drop (y * row_words w + row_words w) put ≡ drop (y * row_words w + row_words w) words

@@ -7,7 +7,7 @@ use native.Mathlib.Decide.{dec_lt}
 use native.Mathlib.Nat.{suc-mul, le_trans, mul-le-mul_left, mul-le-mul_right}
 use native.Mathlib.Omega.{arith}
 use lib.ListN.{length, take}
-use lib.Seq.{get_or_take}
+use lib.Seq.{get_or-take}
 use Rattle.floor.specs.Words.{row_words, row_of, bit_clear, bit_free, board}
 use Rattle.floor.proofs.Places.{row_ends, cell_free}
 use Rattle.reading.specs.Maps.{row_place, Filled, free_letter}
@@ -24,7 +24,7 @@ module _ (text : List ℕ) (from w h : ℕ) (before after : List ℕ) (f : Fille
   drawn_bit x y l m =
       let j : x / 64 < row_words w = omega arith in
       ap (λ word. bit_clear word (x % 64))
-      (row_word w words y (x / 64) j ∙ get_or_take (h * row_words w) after (y * row_words w + x / 64) 0 (omega (arith, row_ends y h (row_words w) l)) ∙ sym (row_word w after y (x / 64) j))
+      (row_word w words y (x / 64) j ∙ get_or-take (h * row_words w) after (y * row_words w + x / 64) 0 (omega (arith, row_ends y h (row_words w) l)) ∙ sym (row_word w after y (x / 64) j))
       ∙ f.drawn y l (f.fit y l) x m
 
   -- a cell of the board is free exactly where its letter is

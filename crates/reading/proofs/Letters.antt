@@ -7,7 +7,7 @@ use native.Mathlib.Decide.{dec_lt}
 use native.Mathlib.Omega.{arith}
 use lib.Dec.{ltb, eqb}
 use lib.ListN.{length, get_or, take, drop, set, length-append, length-drop, length-take, take-append-drop, get_or-append}
-use lib.Seq.{drop_at, drop-drop, get_or-drop, get_or_take, get_or-set_same, get_or-set_other}
+use lib.Seq.{drop_at, drop-drop, get_or-drop, get_or-take, get_or-set_same, get_or-set_other}
 use borrow.Author.Tests.{lt-ltb, le-ltb}
 use Rattle.floor.specs.Words.{bit_clear, bit_free}
 use Rattle.reading.specs.Lines.{At, Has}
@@ -56,7 +56,7 @@ module _ (text : List ℕ) (at w : ℕ) where
       long = simp (length-take, length-drop) (omega arith)
 
       each : (x : ℕ) → x < w → Letter (get_or (take w (drop at text)) x 0)
-      each x k = rw (get_or_take, get_or-drop) (h x k)
+      each x k = rw (get_or-take, get_or-drop) (h x k)
 
       front : At (λ s. s ≡ take w (drop at text)) text at (at + w)
       front =

@@ -1,4 +1,6 @@
 // The text that floorwalk takes, read from byte slices: lines of numbers, and the rows of a map.
+#![tactic(auto)]
+
 ghost use Rattle.std.specs.Prelude.{◌≡◌, ◌+◌, ◌*◌, ◌<◌, ◌≤◌, eqb, length, get_or, drop};
 ghost use Rattle.floor.specs.Refusals.{Tells};
 ghost use Rattle.floor.specs.Words.{row_words};
@@ -15,21 +17,21 @@ const FREE: u8 = 46;
 const BLOCKED: u8 = 35;
 
 // A number and where the text goes on after it and the byte that ends it; or no such number.
-#[derive(Drop)]
+#[derive(Clone, Copy)]
 enum Number {
     Value(usize, usize),
     None,
 }
 
 // A line of two numbers, and where the next line begins.
-#[derive(Drop)]
+#[derive(Clone, Copy)]
 pub enum Two {
     Line(usize, usize, usize),
     None,
 }
 
 // A line of four numbers, and where the next line begins.
-#[derive(Drop)]
+#[derive(Clone, Copy)]
 pub enum Four {
     Line {
         x: usize,
@@ -42,7 +44,7 @@ pub enum Four {
 }
 
 // The rows of a map, and where the next line begins; or the first row that does not fit, counted from 0.
-#[derive(Drop)]
+#[derive(Clone, Copy)]
 pub enum Rows {
     All(usize),
     Bad(usize),

@@ -30,7 +30,7 @@ pub record Filling (g : Ground) (text : List ℕ) (more : Bool) (from : Spot) (b
   pub ended : s.last ≡ true → Ending text more s.at s.line tail
   pub open_tail : s.last ≡ false → tail ≡ []
   pub route_size : length route ≡ 16384
-  pub work_size_lem : length work ≡ 12300
+  pub work_long : length work ≡ 12300
   pub out_size : length after ≡ 131072
 
 module _ (g : Ground) (text : List ℕ) (more : Bool) (from : Spot) (before : List ℕ) where
@@ -52,7 +52,7 @@ module _ (g : Ground) (text : List ℕ) (more : Bool) (from : Spot) (before : Li
         ended = λ e. absurd (true≢false (sym e ∙ b.going));
         open_tail = λ _. refl;
         route_size = r.route_size;
-        work_size_lem = r.work_size_lem;
+        work_long = r.work_long;
         out_size = r.out_size;
       }
 
@@ -83,7 +83,7 @@ module _ (g : Ground) (text : List ℕ) (more : Bool) (from : Spot) (before : Li
             ended = λ e. absurd (true≢false (sym e));
             open_tail = λ _. refl;
             route_size = a ∙ f.route_size;
-            work_size_lem = b ∙ f.work_size_lem;
+            work_long = b ∙ f.work_long;
             out_size = c ∙ f.out_size;
           })
 
@@ -106,7 +106,7 @@ module _ (g : Ground) (text : List ℕ) (more : Bool) (from : Spot) (before : Li
             ended = λ _. unfit left.inside n;
             open_tail = λ e. absurd (true≢false e);
             route_size = a ∙ f.route_size;
-            work_size_lem = b ∙ f.work_size_lem;
+            work_long = b ∙ f.work_long;
             out_size = c ∙ f.out_size;
           })
 

@@ -1,10 +1,10 @@
 -- An answer's line: what its parts make, and how long it can be. Assumes nothing.
-use Prim.Native.Nat.{ℕ, zero, suc, ◌+◌, ◌^◌, ◌<◌, ◌≤◌}
+use Prim.Native.Nat.{ℕ, zero, suc, ◌^◌, ◌<◌, ◌≤◌}
 use mathlib.Core.List.{List, [], ◌∷◌, ◌++◌, append-nil}
 use mathlib.Core.Path.{◌≡◌, refl, sym, ap, ap₂, ◌∙◌}
 use native.Mathlib.Omega.{arith}
 use lib.ListN.{length, get_or, take}
-use lib.Seq.{get_or_take, length-take-le}
+use lib.Seq.{get_or-take, length-take-le}
 use Rattle.telling.specs.declared.Answer.{Answer}
 use Rattle.writing.specs.Answers.{answer_numbers, route_cells}
 use Rattle.writing.proofs.Puts.{digits_64, answer_length, route_length}
@@ -76,5 +76,5 @@ cells_short a route p c z =
       p.written z,
       p.few,
       l,
-      route_length (take a.cells route) (λ i h. rw (get_or_take a.cells route i 0 (omega (arith, l))) (c i)),
+      route_length (take a.cells route) (λ i h. rw (get_or-take a.cells route i 0 (omega (arith, l))) (c i)),
     )

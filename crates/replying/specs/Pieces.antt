@@ -28,7 +28,7 @@ pub record LineLeft (text : List ℕ) (s : Spot) : Type 0 where
 -- the room for a piece, with some output so far
 pub record PieceRoom (route work out : List ℕ) (used : ℕ) : Type 0 where
   pub route_size : length route ≡ 16384
-  pub work_size_lem : length work ≡ 12300
+  pub work_long : length work ≡ 12300
   pub out_size : length out ≡ 131072
   pub little : used ≤ 32576
 

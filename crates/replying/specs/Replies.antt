@@ -39,7 +39,7 @@ pub record TripReply (g : Ground) (x y u v : ℕ) (bytes : List ℕ) : Type 0 wh
   pub work_left : List ℕ
   pub answer : Answer
   pub route_size : length route ≡ 16384
-  pub work_size_lem : length work ≡ 12300
+  pub work_long : length work ≡ 12300
   pub outcome : QueryOutcome (asked g x y u v route work) answer route_left work_left
   pub line : bytes ≡ reply_line answer route_left
 
@@ -80,7 +80,7 @@ pub record Begins (text : List ℕ) (s : Spot) : Type 0 where
 -- the room for a reply
 pub record Room (route work out : List ℕ) (at : ℕ) : Type 0 where
   pub route_size : length route ≡ 16384
-  pub work_size_lem : length work ≡ 12300
+  pub work_long : length work ≡ 12300
   pub out_size : at + 98432 ≤ length out
 
 -- the refusal of the line at a spot was written after the output so far, and r is the last spot

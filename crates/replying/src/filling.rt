@@ -1,7 +1,7 @@
 // A piece of the output: the replies to as many lines as surely have room.
 ghost use Rattle.std.specs.Prelude.{false, ◌≡◌, ◌+◌, ◌≤◌, length};
 ghost use Rattle.floor.specs.Refusals.{Tells};
-ghost use Rattle.opening.specs.Grounds.{ground, Walkable};
+ghost use Rattle.opening.specs.Grounds.{surveyed, Walkable};
 ghost use Rattle.replying.specs.Replies.{Begins};
 ghost use Rattle.replying.specs.Pieces.{LineLeft, PieceRoom, FinishedTo, PieceMade};
 
@@ -61,9 +61,9 @@ pub fn fill(
     work: &mut [u32],
     out: &mut [u8],
 ) -> Spot
-    requires walkable { Walkable (ground w h words.now clear.now corners.now starts.now arcs.now) }
+    requires walkable { Walkable (surveyed w h words.now clear.now corners.now starts.now arcs.now) }
     requires begins { Begins text.now from × PieceRoom route.old work.old out.old from.used }
-    ensures { PieceMade (ground w h words.now clear.now corners.now starts.now arcs.now) text.now more from out.old out.new result }
+    ensures { PieceMade (surveyed w h words.now clear.now corners.now starts.now arcs.now) text.now more from out.old out.new result }
 {
     let mut spot = from;
     while has_line(text, spot) {

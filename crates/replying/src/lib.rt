@@ -1,8 +1,10 @@
 // The replies to the lines of the text that floorwalk takes. One line's reply is made here: the trip that it asks is answered, and the answer
 // written as a line. `filling` puts replies together to a piece of the output.
+#![tactic(auto)]
+
 ghost use Rattle.std.specs.Prelude.{false, [], ◌∷◌, ◌≡◌, ◌+◌, ◌<◌, ◌≤◌, length};
 ghost use Rattle.writing.specs.Answers.{Put, input_refused};
-ghost use Rattle.opening.specs.Grounds.{ground, Walkable};
+ghost use Rattle.opening.specs.Grounds.{surveyed, Walkable};
 ghost use Rattle.replying.specs.Replies.{reply_line, Printable, PutLine, Begins, Room, spot_of, RefusedAt, RepliedTo};
 
 use reading::Four;
@@ -15,7 +17,7 @@ pub use filling::fill;
 const NEWLINE: u8 = 10;
 
 // Where a line of the text begins, its number, how many bytes of output there are so far, and whether they are the last.
-#[derive(Drop)]
+#[derive(Clone, Copy)]
 pub struct Spot {
     pub at: usize,
     pub line: usize,
@@ -114,9 +116,9 @@ fn reply_to(
     work: &mut [u32],
     out: &mut [u8],
 ) -> Spot
-    requires walkable { Walkable (ground w h words.now clear.now corners.now starts.now arcs.now) }
+    requires walkable { Walkable (surveyed w h words.now clear.now corners.now starts.now arcs.now) }
     requires begins { Begins text.now spot × Room route.old work.old out.old spot.used }
-    ensures { RepliedTo (ground w h words.now clear.now corners.now starts.now arcs.now) text.now spot out.old out.new result }
+    ensures { RepliedTo (surveyed w h words.now clear.now corners.now starts.now arcs.now) text.now spot out.old out.new result }
 {
     let Four::Line { x, y, u, v, next } = reading::read_four(text, spot.at) else {
         return refuse(spot, out);

@@ -12,9 +12,9 @@ use lib.Dec.{ltb}
 use lib.ListN.{length, get_or, get_or-eq_default}
 use Rattle.settling.specs.Chains.{wholes}
 use Rattle.settling.specs.Labels.{WaitingAt}
-use Rattle.settling.proofs.Instances.{nearest-no-later}
+use Rattle.settling.proofs.Instances.{nearest_no_later}
 use Rattle.tree.specs.Keys.{key_of, nobody}
-use Rattle.tree.proofs.Keys.{key_place, key_some, key-order, top_least, top_leaf}
+use Rattle.tree.proofs.Keys.{key_place, key_some, key_order, top_least, top_leaf}
 use Rattle.places.specs.declared.Trip.{Trip}
 use Rattle.places.specs.Columns.{column_of, Label, Settled}
 use Rattle.places.specs.Places.{cell_at}
@@ -68,10 +68,10 @@ module _ (C S E : List ℕ) {t : Trip} {W T : List ℕ} (few : t.k ≤ 2048) (ro
   F = column_of (t.k + 2) W Settled
 
   -- One that waits has its key in the tree, and the top holds no more.
-  waiting-key :
+  waiting_key :
       (v e : ℕ) → WaitingAt (labels_of (t.k + 2) W) v e →
       (v < t.k + 2) × (get_or D v 0 ≡ e + 1) × (get_or T (t.k + 2 + v) 0 ≡ key_of (get_or D v 0) (cell_at C t v) v) × (get_or T 1 0 ≤ key_of (get_or D v 0) (cell_at C t v) v)
-  waiting-key v e w =
+  waiting_key v e w =
       let x = waiting_entry D F v e w in
       let h : v < t.k + 2 = rw (column_length (t.k + 2) W Label (omega arith) room) at (waits_inside D F v x.0) in
       let q : get_or T (t.k + 2 + v) 0 ≡ key_of (get_or D v 0) (cell_at C t v) v = right.leaf v h ∙ leaf_waits D F (cell_at C t) v x.0 in
@@ -82,7 +82,7 @@ module _ (C S E : List ℕ) {t : Trip} {W T : List ℕ} (few : t.k ≤ 2048) (ro
   first_none fits q = record {
     inside = omega arith;
     none = λ z v e w.
-        let x = waiting-key v e w in
+        let x = waiting_key v e w in
         key_some (get_or D v 0) (cell_at C t v) v (omega (arith, x.0)) (omega (arith, fits (t.k + 2 + v), x.2, x.3));
     some = λ pos. absurd (omega arith);
   }
@@ -96,18 +96,18 @@ module _ (C S E : List ℕ) {t : Trip} {W T : List ℕ} (few : t.k ≤ 2048) (ro
       go false e = absurd (held (right.leaf p h ∙ leaf_nobody D F (cell_at C t) p e))
 
   -- The place whose key is at the top is the foremost.
-  foremost-of :
+  foremost_of :
       (p : ℕ) → p < t.k + 2 → waits_at D F p ≡ true → get_or T 1 0 ≡ key_of (get_or D p 0) (cell_at C t p) p → First (chart C S E t W) W (p + 1)
-  foremost-of p h w q = record {
+  foremost_of p h w q = record {
     inside = omega arith;
     none = λ z. absurd (omega arith);
     some = λ pos. let e : p + 1 - 1 ≡ p = omega arith in rw e
         (record {
           waits = x.1;
           first = λ v e w'.
-              let y = waiting-key v e w' in
-              let o = key-order (get_or D p 0) (cell_at C t p) p (get_or D v 0) (cell_at C t v) v (right.small p h) (omega arith) (right.small v y.0) (omega (arith, y.0)) (rw q at y.3) in
-              (nearest-no-later wholes (cell (chart C S E t W)) (get_or D p 0 - 1) e p v).1
+              let y = waiting_key v e w' in
+              let o = key_order (get_or D p 0) (cell_at C t p) p (get_or D v 0) (cell_at C t v) v (right.small p h) (omega arith) (right.small v y.0) (omega (arith, y.0)) (rw q at y.3) in
+              (nearest_no_later wholes (cell (chart C S E t W)) (get_or D p 0 - 1) e p v).1
               (omega (arith, o.0, y.1, x.0), λ l. o.1 (omega (arith, y.1, x.0)));
         });
   }
@@ -123,4 +123,4 @@ module _ (C S E : List ℕ) {t : Trip} {W T : List ℕ} (few : t.k ≤ 2048) (ro
       let x = leaf_key top.0 top.1 (λ q. held (sym top.2 ∙ q)) in
       let q : get_or T 1 0 ≡ key_of (get_or D top.0 0) (cell_at C t top.0) top.0 = sym top.2 ∙ x.1 in
       let place : get_or T 1 0 % 4096 ≡ top.0 = rw q (key_place (get_or D top.0 0) (cell_at C t top.0) top.0 (omega (arith, top.1))) in
-      rw place (foremost-of top.0 top.1 x.0 q)
+      rw place (foremost_of top.0 top.1 x.0 q)

@@ -4,7 +4,6 @@ use mathlib.Core.Path.{◌≡◌, refl, sym, ◌∙◌, ap}
 use mathlib.Core.Logic.{◌⊎◌, ⊎_elim}
 use mathlib.Core.Bool.{true, false, true≢false}
 use mathlib.Core.List.{List}
-use mathlib.Core.Option.{some}
 use Prim.Native.Nat.{ℕ, zero, suc, ◌+◌, ◌-◌, ◌≤◌, ◌<◌}
 use native.Mathlib.Nat.{le_of_suc-le-suc}
 use native.Mathlib.Numerals.{add-one}
@@ -116,10 +115,10 @@ module _ {C S E : List ℕ} {t : Trip} {W₀ : List ℕ} (ready : Ready C S E t 
     running_near bounded = rw (chart_same C S E t run.left) (near_of 𝓒 ready.fair (labels_of (t.k + 2) W) run.sound bounded)
 
     -- One place more is settled.
-    pub running-step :
+    pub running_step :
         {W' T' : List ℕ} {r : ℕ} → (labels_of (t.k + 2) W).settled t.to ≡ false → m < budget → 0 < r → Settling C S E t W T r W' T' →
         Running C S E t W₀ T₀ budget W' T' (m + 1)
-    running-step {W'} {T'} {r} open-goal h pos s = record {
+    running_step {W'} {T'} {r} open-goal h pos s = record {
       left = left_trans run.left s.left;
       right = s.right;
       tree = s.tree ∙ run.tree;
@@ -190,18 +189,18 @@ module _ {C S E : List ℕ} {t : Trip} {W₀ : List ℕ} (ready : Ready C S E t 
     }
 
 -- What a run comes to that begins after the start has its label, by the work space at entry: the number of settled places is the only one.
-pub run-begun :
+pub run_begun :
     {C S E : List ℕ} {t : Trip} {W₀ W₁ : List ℕ} → Left (t.k + 2) W₀ W₁ → {budget m r : ℕ} {W : List ℕ} → Run C S E t W₁ budget m W →
     Counts (λ v. (labels_of (t.k + 2) W).settled v ≡ true) (below (t.k + 2)) r →
     Run C S E t W₀ budget r W
-run-begun {C} {S} {E} {t} begun run count =
+run_begun {C} {S} {E} {t} begun run count =
     rw (counts_unique count run.outcome.counted)
     (record { outcome = rw (chart_same C S E t begun) at run.outcome; left = left_trans begun run.left })
 
 -- Chains stay bounded.
-pub bounded-begun :
+pub bounded_begun :
     (C S E : List ℕ) (t : Trip) {W₀ W₁ : List ℕ} → Left (t.k + 2) W₀ W₁ → Bounded (chart C S E t W₀) → Bounded (chart C S E t W₁)
-bounded-begun C S E t begun b = rw (chart_same C S E t begun) b
+bounded_begun C S E t begun b = rw (chart_same C S E t begun) b
 
 -- ---- the settled places counted
 -- One place further: it counts where it has the property.

@@ -17,18 +17,18 @@ use Rattle.places.proofs.Columns.{column_length, only_left, left_same, left_tran
 use Rattle.places.proofs.Charts.{chart_same}
 use Rattle.offers.specs.Tree.{Small, Right}
 use Rattle.offers.specs.Offers.{limit, Offered, Followed}
-use Rattle.offers.proofs.Trees.{leaf_nobody, waits_blank, right-settled}
+use Rattle.offers.proofs.Trees.{leaf_nobody, waits_blank, right_settled}
 use Rattle.search.specs.Search.{read, labels, labels_of, Foremost, Near, First, Marked, Settling, Blank}
 use Rattle.search.proofs.Decode.{read_some, some_read}
 
 -- A place that is marked, with the tree put right.
-pub marked-of :
+pub marked_of :
     {t : Trip} {W T W' T' : List ℕ} {u : ℕ} → 6 * (t.k + 2) ≤ length W → u < t.k + 2 → Put (t.k + 2) W Settled u 1 W' → Changed (t.k + 2) T u nobody T' → Marked t W T u W' T'
-marked-of room h s c = record {
+marked_of room h s c = record {
   label = s.only.others Label (λ q. omega arith);
   settled = s.here;
   left = only_left (omega arith) s.only;
-  right = λ C right. right-settled right room h s c;
+  right = λ C right. right_settled right room h s c;
   tree = c.sized;
 }
 
@@ -74,11 +74,11 @@ module _ {C S E : List ℕ} {t : Trip} {W : List ℕ} {r : ℕ} (f : First (char
   first_near near = omega (arith, near.near (r - 1) _ (f.some pos))
 
   -- It is marked, and all its links are followed: a step.
-  pub settling-some :
+  pub settling_some :
       Ready C S E t W → {T W' T' W'' T'' : List ℕ} → Marked t W T (r - 1) W' T' →
       Followed C S E t W' T' (r - 1) (get_or (column_of (t.k + 2) W Label) (r - 1) 0) (link_count (chart C S E t W') (r - 1)) W'' T'' →
       Settling C S E t W T r W'' T''
-  settling-some ready {T} {W'} {T'} {W''} m l = record {
+  settling_some ready {T} {W'} {T'} {W''} m l = record {
     inside = f.inside;
     none = λ z. absurd (omega arith);
     some = λ h. (_, step_of (chart C S E t W) (column_of (t.k + 2) W Label) (column_of (t.k + 2) W Settled) (column_of (t.k + 2) W'' Label) (column_of (t.k + 2) W'' Settled) (r - 1) (f.some pos) first_entry offered (l.settled ∙ m.settled) inside);
@@ -96,10 +96,10 @@ module _ {C S E : List ℕ} {t : Trip} {W : List ℕ} {r : ℕ} (f : First (char
 
 -- ---- the beginning
 -- A tree that holds nobody is right where nothing is labelled.
-pub blank-right :
+pub blank_right :
     {C : List ℕ} {t : Trip} {W T : List ℕ} → Small C t → t.k + 2 + (t.k + 2) ≤ length T → ((i : ℕ) → i < length T → get_or T i 0 ≡ nobody) → Blank (t.k + 2) W →
     Right C t W T
-blank-right {C} {t} {W} {T} small room bare b = record {
+blank_right {C} {t} {W} {T} small room bare b = record {
   small = small;
   keyed = record {
     room = room;

@@ -1,6 +1,8 @@
 // The search over places, nearest first, of equally near ones the smaller cell number first. What it finds is in the work
 // space that the caller lends. What it needs only while it runs is in an array of its own: a tree of keys, which tells the
 // place that comes first, 33 KB of the call's stack.
+#![tactic(auto)]
+
 ghost use Rattle.std.specs.Prelude.{◌≡◌, ℕ, ◌+◌, ◌*◌, ◌<◌, ◌≤◌, true, List, length, get_or};
 ghost use Rattle.settling.specs.Labels.{First as Begun};
 ghost use Rattle.settling.specs.Counts.{Counts, below};

@@ -2,12 +2,12 @@
 use Prim.Native.Nat.{ℕ, pred, ◌+◌}
 use mathlib.Core.Bool.{true, false, true≢false}
 use mathlib.Core.List.{List, [], ◌∷◌}
-use mathlib.Core.Logic.{◌⊎◌, inl, inr, ⊎_elim}
+use mathlib.Core.Logic.{inl, inr, ⊎_elim}
 use mathlib.Core.Path.{◌≡◌, refl, sym, ◌∙◌, ap}
 use native.Mathlib.Omega.{arith}
 use lib.Dec.{eqb}
 use borrow.Author.Tests.{eqb-false}
-use Rattle.lengths.specs.Lengths.{Len, pair, over, shorter, ◌≺◌}
+use Rattle.lengths.specs.Lengths.{Len, pair, over, shorter}
 use Rattle.lengths.specs.Laws.{shorter-≺, 𝟎_least}
 use Rattle.floor.specs.Board.{Place, N, E, S, corner, nook, step}
 use Rattle.floor.specs.Words.{board, free_in, place_of}

@@ -49,7 +49,7 @@ module _ (w h : ℕ) (words : List ℕ) (lent : Lists) (r r' : Surveyed) (left l
   same_done : r.code ≡ r'.code → Done w h words lent r left → Done w h words lent r' left' → (r ≡ r') × (left ≡ left')
   same_done e a b =
       let p = one_plan w h words a.plan b.plan a.is_plan b.is_plan in (
-        same_answer r r' e (a.free_count ∙ sym b.free_count) (a.corner_count_lem ∙ ap (λ (l : Lists). length l.corners) p ∙ sym b.corner_count_lem)
+        same_answer r r' e (a.free_count ∙ sym b.free_count) (a.corners_told ∙ ap (λ (l : Lists). length l.corners) p ∙ sym b.corners_told)
             (a.arc_count ∙ ap (λ (l : Lists). length l.neighbours) p ∙ sym b.arc_count),
         same_lists left left'
             (a.clear ∙ ap (λ (l : Lists). written l.clear lent.clear) p ∙ sym b.clear)
@@ -78,7 +78,7 @@ module _ (w h : ℕ) (words : List ℕ) (lent : Lists) (r r' : Surveyed) (left l
       by (yes e) d = same_done same (a.done e) (b.done (sym same ∙ e))
       by (no n) (yes e) =
           let s = same in
-          (same_refused same (a.refused (omega arith)) (b.refused (omega arith)), a.wiped_all_lem e ∙ sym (b.wiped_all_lem (sym same ∙ e)))
+          (same_refused same (a.refused (omega arith)) (b.refused (omega arith)), a.seven_wipes e ∙ sym (b.seven_wipes (sym same ∙ e)))
       by (no n) (no m) =
           let s = same in
           let f = few in

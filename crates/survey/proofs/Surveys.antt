@@ -5,7 +5,7 @@ use mathlib.Core.Logic.{◌⊎◌, inl, inr, ⊎_elim}
 use mathlib.Core.Path.{◌≡◌, refl, sym, ◌∙◌, ap, subst}
 use native.Mathlib.Omega.{arith}
 use lib.ListN.{length, take, drop, replicate, length-drop, take-append-drop}
-use lib.Seq.{ext_get_or, get_or_take, get_or-drop, length-take-le, take-append_seam}
+use lib.Seq.{ext_get_or, get_or-take, get_or-drop, length-take-le, take-append_seam}
 use Rattle.floor.specs.Board.{dir_at}
 use Rattle.floor.specs.Refusals.{Refusal, FirstOf, Numbered}
 use Rattle.floor.specs.Words.{board, place_of, floor_rows, clear_bits, Floor}
@@ -125,7 +125,7 @@ module _ (w h : ℕ) (words lent exit : List ℕ) (m : MarkedAll w h words lent 
       record {
         four_each = clear_first;
         cleared = λ c d l k.
-            subst (λ (n : ℕ). ClearanceAt (board w h words) (dir_at d) (place_of w c) n) (sym (get_or_take (4 * (w * h)) exit (4 * c + d) 0 (omega arith))) (m.cleared c d l k);
+            subst (λ (n : ℕ). ClearanceAt (board w h words) (dir_at d) (place_of w c) n) (sym (get_or-take (4 * (w * h)) exit (4 * c + d) 0 (omega arith))) (m.cleared c d l k);
         ascending = refl;
       }
 
@@ -177,7 +177,7 @@ module _ (w h : ℕ) (words : List ℕ) (clear corners starts neighbours : List 
         done = λ e. absurd (n e);
         refused = λ l. record { no_free = refl; no_corners = refl; no_arcs = refl };
         kept = λ l k. refl;
-        wiped_all_lem = λ e. absurd (let k = early_few w h words (length clear) (length corners) (length starts) c p in omega arith);
+        seven_wipes = λ e. absurd (let k = early_few w h words (length clear) (length corners) (length starts) c p in omega arith);
       })
 
   -- refusal 7 leaves zeros
@@ -189,7 +189,7 @@ module _ (w h : ℕ) (words : List ℕ) (clear corners starts neighbours : List 
         done = λ z. absurd (omega arith);
         refused = λ l. record { no_free = refl; no_corners = refl; no_arcs = refl };
         kept = λ l k. absurd (omega arith);
-        wiped_all_lem = λ z. a;
+        seven_wipes = λ z. a;
       })
 
   -- and where all was written it is the plan
@@ -211,12 +211,12 @@ module _ (w h : ℕ) (words : List ℕ) (clear corners starts neighbours : List 
           starts = linked.starts_written;
           neighbours = linked.list_written;
           free_count = counted ∙ free_cells_are w h words passed.floor;
-          corner_count_lem = ks;
+          corners_told = ks;
           arc_count = sym linked.count;
         };
         refused = λ l. absurd (omega arith);
         kept = λ l q. absurd (omega arith);
-        wiped_all_lem = λ z. absurd (omega arith);
+        seven_wipes = λ z. absurd (omega arith);
       }
     where
       first : take k corners₁ ≡ corner_cells w h words

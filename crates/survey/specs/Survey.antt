@@ -51,7 +51,7 @@ pub record Done (w h : ℕ) (words : List ℕ) (lent : Lists) (r : Surveyed) (le
   pub starts : left.starts ≡ written plan.starts lent.starts
   pub neighbours : left.neighbours ≡ written plan.neighbours lent.neighbours
   pub free_count : r.free ≡ free_cells w h words
-  pub corner_count_lem : r.corners ≡ length plan.corners
+  pub corners_told : r.corners ≡ length plan.corners
   pub arc_count : r.arcs ≡ length plan.neighbours
 
 -- the answer of a refusal: all numbers but the code are 0
@@ -70,4 +70,4 @@ pub record SurveyOutcome (w h : ℕ) (words : List ℕ) (lent : Lists) (r : Surv
   pub done : r.code ≡ 0 → Done w h words lent r left
   pub refused : 0 < r.code → Refused r
   pub kept : 0 < r.code → r.code < 7 → left ≡ lent
-  pub wiped_all_lem : r.code ≡ 7 → left ≡ wiped_all lent
+  pub seven_wipes : r.code ≡ 7 → left ≡ wiped_all lent

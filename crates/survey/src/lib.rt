@@ -1,4 +1,6 @@
 // The survey of a floor: its plan, which is clearances, turning points, starts and neighbours, written into four lent lists; or a refusal.
+#![tactic(auto)]
+
 ghost use Rattle.std.specs.Prelude.{◌≡◌, length};
 ghost use Rattle.floor.specs.Refusals.{FirstOf};
 ghost use Rattle.corners.specs.Lists.{wiped};
@@ -8,7 +10,7 @@ use plan::Filled;
 
 // What a survey returns: the number of document 01's table, and where it is 0 the free cells, the turning points and the arcs.
 #[repr(C)]
-#[derive(Drop)]
+#[derive(Clone, Copy)]
 pub struct Surveyed {
     pub code: u32,
     pub free: u32,

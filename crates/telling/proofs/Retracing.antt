@@ -13,7 +13,7 @@ use Rattle.places.specs.Columns.{Next, Only}
 use Rattle.line.specs.Cells.{legs}
 use Rattle.chain.specs.Chain.{Journey, Walked, cells_at, Linked, Paved}
 use Rattle.chain.proofs.Backwards.{walked_kept}
-use Rattle.chain.proofs.Paving.{linked-route, linked_paved}
+use Rattle.chain.proofs.Paving.{linked_route, linked_paved}
 use Rattle.telling.specs.Told.{Told, Retraced}
 use Rattle.telling.specs.declared.Answer.{Answer}
 use Rattle.telling.proofs.Telling.{told_fits}
@@ -33,7 +33,7 @@ module _ {a : Journey} {C S E : List ℕ} {t : Trip} {W W' : List ℕ} {l : Leng
         measured = told.measured;
         billed = told.billed;
         cells = t.start ∷ legs t.w (cells_at C t n.places);
-        is_route = linked-route (walked_kept t o k) n;
+        is_route = linked_route (walked_kept t o k) n;
         left = record { fits = λ m. (z, e); full = λ m. absurd (let f = told.full m in omega arith) };
       }
 
@@ -46,6 +46,6 @@ module _ {a : Journey} {C S E : List ℕ} {t : Trip} {W W' : List ℕ} {l : Leng
         measured = told.measured;
         billed = told.billed;
         cells = t.start ∷ legs t.w (cells_at C t n.places);
-        is_route = linked-route (walked_kept t o k) n;
+        is_route = linked_route (walked_kept t o k) n;
         left = record { fits = λ m. absurd (z (told.fits m)); full = λ m. (told.full m, refl) };
       }

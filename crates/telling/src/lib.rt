@@ -1,4 +1,6 @@
 // What is told: of the direct line, of a route that is walked back from the goal, or that there is none.
+#![tactic(auto)]
+
 ghost use Rattle.std.specs.Prelude.{◌≡◌, ◌+◌, ◌<◌, ◌≤◌, length, replicate};
 ghost use Rattle.lengths.specs.Lengths.{len_of};
 ghost use Rattle.floor.specs.Board.{at};
@@ -16,7 +18,7 @@ use places::Trip;
 // What a query returns: the number of document 01's table; where it is 0 or 13 the length, the cells of the route and the effort; where
 // it is 12 the effort.
 #[repr(C)]
-#[derive(Drop)]
+#[derive(Clone, Copy)]
 pub struct Answer {
     pub code: u32,
     pub straight: u32,

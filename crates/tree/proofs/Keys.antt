@@ -20,9 +20,9 @@ pub key_some : (l c p : ℕ) → p < 4095 → key_of l c p ≡ nobody → ⊥
 key_some l c p h q = omega arith
 
 -- The lesser key has no more for a label, and for equal labels no more for a cell.
-pub key-order :
+pub key_order :
     (l c p l' c' p' : ℕ) → c < 16384 → p < 4096 → c' < 16384 → p' < 4096 → key_of l c p ≤ key_of l' c' p' → (l ≤ l') × (l' ≤ l → c ≤ c')
-key-order l c p l' c' p' a b a' b' h = (omega arith, λ e. omega arith)
+key_order l c p l' c' p' a b a' b' h = (omega arith, λ e. omega arith)
 
 -- A lower label gives a lower key.
 pub key_lower : (l l' c p : ℕ) → l ≤ l' → key_of l c p ≤ key_of l' c p
@@ -34,9 +34,9 @@ abbrev pub brother : ℕ → ℕ
 brother c = c + 1 - 2 * (c % 2)
 
 -- A node and its brother are the children of its parent.
-pub two-children :
+pub two_children :
     (T : List ℕ) (c : ℕ) → 0 < c → min (get_or T (2 * (c / 2)) 0) (get_or T (2 * (c / 2) + 1) 0) ≡ min (get_or T c 0) (get_or T (brother c) 0)
-two-children T c pos = go (ℕ_discrete (c % 2) 0)
+two_children T c pos = go (ℕ_discrete (c % 2) 0)
   where
     go : Dec (c % 2 ≡ 0) → min (get_or T (2 * (c / 2)) 0) (get_or T (2 * (c / 2) + 1) 0) ≡ min (get_or T c 0) (get_or T (brother c) 0)
     go (yes q) =
@@ -58,9 +58,9 @@ least_elsewhere T x v i far apart w =
     ) w
 
 -- A node that is set to the less of its children is right.
-pub least-here :
+pub least_here :
     (T : List ℕ) (i v : ℕ) → 0 < i → i < length T → v ≡ min (get_or T (2 * i) 0) (get_or T (2 * i + 1) 0) → LeastAt (set T i v) i
-least-here T i v pos h q =
+least_here T i v pos h q =
     rw (
       get_or-set_same T i v 0 h,
       get_or-set_other T i (2 * i) v 0 (λ e. omega arith),
@@ -97,7 +97,7 @@ climbing_first {n} {p} {key} {T} k h less = record {
       rw (
         get_or-set_other T (n + p) ((n + p) / 2) key 0 (λ q. omega arith),
         get_or-set_other T (n + p) (brother (n + p)) key 0 (λ q. omega arith),
-      ) (k.least ((n + p) / 2) (omega arith) (omega arith) ∙ two-children T (n + p) (omega arith));
+      ) (k.least ((n + p) / 2) (omega arith) (omega arith) ∙ two_children T (n + p) (omega arith));
 }
 
 module _ {n key : ℕ} {T₀ T : List ℕ} {x : ℕ} (w : Climbing n key T₀ T x) where
@@ -117,13 +117,13 @@ module _ {n key : ℕ} {T₀ T : List ℕ} {x : ℕ} (w : Climbing n key T₀ T 
         rw (
           get_or-set_other T (x / 2) (x / 2 / 2) key 0 (λ q. omega arith),
           get_or-set_other T (x / 2) (brother (x / 2)) key 0 (λ q. omega arith),
-        ) (w.right (x / 2 / 2) (omega arith) (omega (arith, w.high)) (λ q. omega arith) ∙ two-children T (x / 2) (omega arith));
+        ) (w.right (x / 2 / 2) (omega arith) (omega (arith, w.high)) (λ q. omega arith) ∙ two_children T (x / 2) (omega arith));
   }
     where
       go : (i : ℕ) → 0 < i → i < n → (i ≡ x / 2 / 2 → ⊥) → Dec (i ≡ x / 2) → LeastAt (set T (x / 2) key) i
       go i pos l far (yes q) =
           rw q
-          (least-here T (x / 2) key (omega arith) (omega (arith, w.high, w.room)) (omega (arith, two-children T x w.low, w.here, w.above more, w.lower)))
+          (least_here T (x / 2) key (omega arith) (omega (arith, w.high, w.room)) (omega (arith, two_children T x w.low, w.here, w.above more, w.lower)))
       go i pos l far (no m) = least_elsewhere T (x / 2) key i m far (w.right i pos l m)
 
   -- The node above holds no more than the key: all nodes are right.
@@ -131,7 +131,7 @@ module _ {n key : ℕ} {T₀ T : List ℕ} {x : ℕ} (w : Climbing n key T₀ T 
   climbing_early more less = record { room = w.room; least = λ i pos l. go i pos l (ℕ_discrete i (x / 2)) }
     where
       go : (i : ℕ) → 0 < i → i < n → Dec (i ≡ x / 2) → LeastAt T i
-      go i pos l (yes q) = rw q (omega (arith, two-children T x w.low, w.here, w.above more, w.lower))
+      go i pos l (yes q) = rw q (omega (arith, two_children T x w.low, w.here, w.above more, w.lower))
       go i pos l (no m) = w.right i pos l m
 
   -- At the top all nodes are right.
@@ -192,7 +192,7 @@ module _ {n : ℕ} {T₀ T : List ℕ} {x best : ℕ} (w : Mending n T₀ T x be
       go : (i : ℕ) → 0 < i → i < n → (Above (x / 2) i → ⊥) → Dec (i ≡ x / 2) → LeastAt (set T (x / 2) less) i
       go i pos l off (yes q) =
           rw q
-          (least-here T (x / 2) less (omega arith) (omega (arith, w.high, w.room)) (omega (arith, two-children T x w.low, w.here)))
+          (least_here T (x / 2) less (omega arith) (omega (arith, w.high, w.room)) (omega (arith, two_children T x w.low, w.here)))
       go i pos l off (no m) =
           least_elsewhere T (x / 2) less i m (λ q. off (next q)) (w.right i pos l (λ a. ⊎_elim m off (above_split a)))
 
@@ -201,11 +201,11 @@ module _ {n : ℕ} {T₀ T : List ℕ} {x best : ℕ} (w : Mending n T₀ T x be
   mending_top h = record { room = w.room; least = λ i pos l. w.right i pos l (λ a. omega (arith, above_top a h)) }
 
 -- A tree in which, after the store to leaf p, the leaves have stayed is the tree with that leaf changed.
-pub changed-of :
+pub changed_of :
     {n p key : ℕ} {T T' : List ℕ} → Keyed n T → p < n → Keyed n T' → length T' ≡ length (set T (n + p) key) →
     ((c : ℕ) → n ≤ c → get_or T' c 0 ≡ get_or (set T (n + p) key) c 0) →
     Changed n T p key T'
-changed-of {n} {p} {key} {T} k h k' sized leaves = record {
+changed_of {n} {p} {key} {T} k h k' sized leaves = record {
   keyed = k';
   here = leaves (n + p) (omega arith) ∙ get_or-set_same T (n + p) key 0 (omega (arith, k.room));
   others = λ q far. leaves (n + q) (omega arith) ∙ get_or-set_other T (n + p) (n + q) key 0 (λ e. far (omega arith));
@@ -216,7 +216,7 @@ changed-of {n} {p} {key} {T} k h k' sized leaves = record {
 module _ {n : ℕ} {T : List ℕ} (k : Keyed n T) where
   -- A node holds no more than its child.
   child_more : (c : ℕ) → 1 < c → c < n + n → get_or T (c / 2) 0 ≤ get_or T c 0
-  child_more c more l = omega (arith, k.least (c / 2) (omega arith) (omega arith), two-children T c (omega arith))
+  child_more c more l = omega (arith, k.least (c / 2) (omega arith) (omega arith), two_children T c (omega arith))
 
   -- So the top holds no more than any node. By a bound m on c, since c / 2 is less than c.
   top_less : (m c : ℕ) → c ≤ m → 0 < c → c < n + n → get_or T 1 0 ≤ get_or T c 0

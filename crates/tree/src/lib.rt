@@ -1,6 +1,8 @@
 // A tree of keys, to find the least: node i holds the less of what nodes 2 i and 2 i + 1 hold, and node n + p is leaf p.
 // A key is a label, a cell and a place in one number, so that the least key is the place that comes first. Each store
 // goes to one node and each comparison is of two numbers, so there is nothing to look up on the way.
+#![tactic(auto)]
+
 ghost use Rattle.std.specs.Prelude.{◌≡◌, ◌+◌, ◌≤◌, ◌<◌, min, get_or};
 ghost use Rattle.tree.specs.Keys.{key_of, nobody, Keyed, Changed};
 

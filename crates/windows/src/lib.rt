@@ -1,4 +1,6 @@
 // The eight directions, the window round a cell, and the corner and step rules on it.
+#![tactic(auto)]
+
 ghost use Rattle.std.specs.Prelude.{◌≡◌, ◌*◌, ◌<◌, ◌≤◌, length};
 ghost use Rattle.floor.specs.Board.{at, step, nook, corner, dir_at};
 ghost use Rattle.floor.specs.Refusals.{Tells};

@@ -1,4 +1,6 @@
 // The lines that floorwalk writes. Each function puts bytes into a list from a place on and says where they end. The list has room.
+#![tactic(auto)]
+
 ghost use Rattle.std.specs.Prelude.{[], ◌∷◌, ◌+◌, ◌<◌, ◌≤◌, length};
 ghost use Rattle.writing.specs.Numbers.{decimal};
 ghost use Rattle.writing.specs.Answers.{Put, named, spaced, number_line, floor_line, survey_refused, input_refused, answer_numbers, route_cells};
