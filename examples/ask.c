@@ -1,4 +1,4 @@
-/* Asks the library for walks over a floor that is drawn below. Once the library is built (rt staticlib azebimoru):
+/* Asks the library for walks over a floor that is drawn below. Once the library is built (tools/build library):
 
      cc -Iinclude examples/ask.c target/staticlib/libazebimoru.a -o ask && ./ask */
 #include <stdio.h>

@@ -22,7 +22,7 @@ fn program() -> PathBuf {
 
 fn command() -> Command {
     let program = program();
-    assert!(program.is_file(), "no program at {}: `rt check floorwalk` makes it", program.display());
+    assert!(program.is_file(), "no program at {}: `tools/build program` makes it", program.display());
     let runner = env::var("AZEBIMORU_RUNNER").unwrap_or_default();
     let mut words = runner.split_whitespace();
     match words.next() {
