@@ -8,7 +8,10 @@ ghost use Rattle.survey.specs.Survey.{lists, SurveyOutcome};
 ghost use Rattle.query.specs.Query.{QueryOutcome};
 ghost use Rattle.azebimoru.specs.Matches.{OwnPlan};
 
+use floor::Cell;
 use lengths::Length;
+use plan::Plan;
+use std::cmp::Ordering;
 use survey::Surveyed;
 use telling::Answer;
 
@@ -17,16 +20,19 @@ use telling::Answer;
 pub extern "C" fn azebimoru_compare(a: u16, b: u16, c: u16, d: u16) -> i32
     ensures { result ≡ compare_of (pair a b) (pair c d) }
 {
-    lengths::compare(
-        Length {
-            straight: a,
-            diagonal: b,
-        },
-        Length {
-            straight: c,
-            diagonal: d,
-        },
-    )
+    let x = Length {
+        straight: a,
+        diagonal: b,
+    };
+    let y = Length {
+        straight: c,
+        diagonal: d,
+    };
+    match x.cmp(&y) {
+        Ordering::Less => -1,
+        Ordering::Equal => 0,
+        Ordering::Greater => 1,
+    }
 }
 
 // Writes the plan of a floor into the four lists, or refuses by number.
@@ -58,10 +64,15 @@ pub extern "C" fn azebimoru_matches(
 ) -> bool
     ensures { Tells (OwnPlan w h words.now (lists clearances.now corners.now starts.now neighbours.now)) result }
 {
-    if floor::check_floor(words, w, h) == 0 {
-        matching::matches(words, w, h, clearances, corners, starts, neighbours)
-    } else {
-        false
+    let plan = Plan {
+        clear: clearances,
+        corners,
+        starts,
+        neighbours,
+    };
+    match floor::check_floor(words, w, h) {
+        Ok(floor) => matching::matches(&floor, &plan),
+        Err(_) => false,
     }
 }
 
@@ -84,7 +95,13 @@ pub extern "C" fn azebimoru_query(
 ) -> Answer
     ensures { QueryOutcome (record { w = w; h = h; words = words.now; plan = record { clear = clearances.now; corners = corners.now; starts = starts.now; neighbours = neighbours.now }; sx = sx; sy = sy; gx = gx; gy = gy; route = route.old; work = work.old }) result route.new work.new }
 {
-    query::query(
-        words, w, h, clearances, corners, starts, neighbours, sx, sy, gx, gy, route, work,
-    )
+    let plan = Plan {
+        clear: clearances,
+        corners,
+        starts,
+        neighbours,
+    };
+    let start = Cell { x: sx, y: sy };
+    let goal = Cell { x: gx, y: gy };
+    query::query(words, w, h, &plan, start, goal, route, work)
 }

@@ -8,6 +8,7 @@ use mathlib.Core.Option.{some}
 use mathlib.Core.Path.{◌≡◌, refl, sym, ◌∙◌, ap, subst}
 use native.Mathlib.Nat.{le_of_eq, le_antisymm}
 use native.Mathlib.Omega.{arith}
+use Rattle.std.specs.Prelude.{Some}
 use Rattle.lengths.specs.Lengths.{Len, ◌⊕◌}
 use Rattle.lengths.specs.Laws.{weight, le_or_lt, ≼_antisym}
 use Rattle.floor.specs.Words.{place_of}
@@ -38,12 +39,12 @@ module _ {w h : ℕ} {words : List ℕ} {p : Lists} {start goal : ℕ} {𝓒 : C
   -- What is linked to v, has a shortest length, and with the link adds up to v's, is what precedes v on the floor.
   pub precedes_iff :
       (u v d e : ℕ) (l : Len) → Used 𝓒 u → Used 𝓒 v → Far w h words start (cell 𝓒 v) l → weight l ≡ d →
-      (((j : ℕ) × (j < link_count 𝓒 v) × (link_at 𝓒 v j ≡ u + 1)) × Shortest (net 𝓒) u e × (e + apart 𝓒.trip.w (cell 𝓒 u) (cell 𝓒 v) ≡ d))
+      (((j : ℕ) × (j < link_count 𝓒 v) × (link_at 𝓒 v j ≡ Some u)) × Shortest (net 𝓒) u e × (e + apart 𝓒.trip.w (cell 𝓒 u) (cell 𝓒 v) ≡ d))
       ↔ ((m : Len) × (weight m ≡ e) × Precedes w h words start goal (cell 𝓒 v) l (cell 𝓒 u) m)
   precedes_iff u v d e l a b f q = (there, back)
     where
       there :
-          ((j : ℕ) × (j < link_count 𝓒 v) × (link_at 𝓒 v j ≡ u + 1)) × Shortest (net 𝓒) u e × (e + apart 𝓒.trip.w (cell 𝓒 u) (cell 𝓒 v) ≡ d) →
+          ((j : ℕ) × (j < link_count 𝓒 v) × (link_at 𝓒 v j ≡ Some u)) × Shortest (net 𝓒) u e × (e + apart 𝓒.trip.w (cell 𝓒 u) (cell 𝓒 v) ≡ d) →
           (m : Len) × (weight m ≡ e) × Precedes w h words start goal (cell 𝓒 v) l (cell 𝓒 u) m
       there (k, s, t) =
           let j = joined_turned (link_there ch v u k).1 in
@@ -67,7 +68,7 @@ module _ {w h : ℕ} {words : List ℕ} {p : Lists} {start goal : ℕ} {𝓒 : C
 
       back :
           (m : Len) × (weight m ≡ e) × Precedes w h words start goal (cell 𝓒 v) l (cell 𝓒 u) m →
-          ((j : ℕ) × (j < link_count 𝓒 v) × (link_at 𝓒 v j ≡ u + 1)) × Shortest (net 𝓒) u e × (e + apart 𝓒.trip.w (cell 𝓒 u) (cell 𝓒 v) ≡ d)
+          ((j : ℕ) × (j < link_count 𝓒 v) × (link_at 𝓒 v j ≡ Some u)) × Shortest (net 𝓒) u e × (e + apart 𝓒.trip.w (cell 𝓒 u) (cell 𝓒 v) ≡ d)
       back (m, r, t) = (
         link_back ch v u b a (joined_turned t.joined),
         subst (λ (x : ℕ). Shortest (net 𝓒) u x) r (walk_shortest ch a t.far),

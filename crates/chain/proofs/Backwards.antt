@@ -3,7 +3,7 @@ use Prim.Native.Nat.{ℕ, ◌+◌, ◌*◌, ◌-◌, ◌/◌, ◌%◌, ◌≤◌
 use mathlib.Core.Bool.{true}
 use mathlib.Core.List.{List, [], ◌∷◌, ◌++◌, append_assoc, append-nil}
 use mathlib.Core.Logic.{⊎_elim, ◌≢◌}
-use mathlib.Core.Path.{◌≡◌, sym, ◌∙◌, ap, subst}
+use mathlib.Core.Path.{◌≡◌, refl, sym, ◌∙◌, ap, subst}
 use native.Mathlib.Nat.{mod-lt, div-lt_iff_lt-mul}
 use native.Mathlib.Omega.{arith}
 use native.Mathlib.Decide.{dec_lt}
@@ -11,6 +11,7 @@ use borrow.Author.Tests.{ltb-true, lt-ltb, eqb-true, eqb-false}
 use lib.Dec.{eqb}
 use lib.ListN.{length, get_or, set, length-set}
 use lib.Seq.{get_or-set_same, get_or-set_other}
+use Rattle.std.specs.Prelude.{Option, Some, None}
 use Rattle.lengths.specs.Lengths.{Len, 𝟎, ◌⊕◌, len_of}
 use Rattle.lengths.specs.declared.Length.{Length}
 use Rattle.lengths.specs.Laws.{same_pair}
@@ -26,6 +27,7 @@ use Rattle.places.specs.Columns.{column_of, Label, Settled, Next, Only, Put}
 use Rattle.places.specs.Places.{cell_at, apart, TwoCells}
 use Rattle.places.specs.Chart.{Chart, chart, link_at, link_count, net, Ready}
 use Rattle.search.specs.Search.{labels_of, Run}
+use Rattle.places.proofs.Cells.{some_one, none_some}
 use Rattle.places.proofs.Columns.{column_length}
 use Rattle.search.proofs.Decode.{read_some, some_read}
 use Rattle.places.proofs.Charts.{chart_same, ready_kept}
@@ -36,61 +38,58 @@ use Rattle.chain.proofs.Places.{trip, from_cell, to_cell, used_within}
 use Rattle.chain.proofs.Back.{not_start, adds_nearer, settled_used, settled_walk, some_labelled, before_labelled}
 
 -- ---- the place before one
--- Of the links of v below the j-th that lead to it, `best` is one with the least cell number; it is 0 where there is none.
-pub record Best (C S E : List ℕ) (t : Trip) (W : List ℕ) (v j best : ℕ) : Type 0 where
-  pub from : 0 < best → LeadsTo C t W v best × ((i : ℕ) × (i < j) × (link_at (chart C S E t W) v i ≡ best))
+-- Of the places to which links of v below the j-th lead and that lead to it, `best` is one with the least cell number, if there is one.
+pub record Best (C S E : List ℕ) (t : Trip) (W : List ℕ) (v j : ℕ) (best : Option ℕ) : Type 0 where
+  pub from : (u : ℕ) → best ≡ Some u → LeadsTo C t W v u × ((i : ℕ) × (i < j) × (link_at (chart C S E t W) v i ≡ Some u))
   pub least :
-      (i : ℕ) → i < j → LeadsTo C t W v (link_at (chart C S E t W) v i) →
-      (0 < best) × (cell_at C t (best - 1) ≤ cell_at C t (link_at (chart C S E t W) v i - 1))
+      (i x : ℕ) → i < j → link_at (chart C S E t W) v i ≡ Some x → LeadsTo C t W v x →
+      (u : ℕ) × (best ≡ Some u) × (cell_at C t u ≤ cell_at C t x)
 
 module _ {C S E : List ℕ} {t : Trip} {W : List ℕ} {v : ℕ} where
   -- before the first link there is none
-  pub best_none : Best C S E t W v 0 0
-  best_none = record { from = λ h. absurd (omega arith); least = λ i h. absurd (omega arith) }
+  pub best_none : Best C S E t W v 0 None
+  best_none = record { from = λ u h. absurd (none_some h); least = λ i x h. absurd (omega arith) }
 
   -- a link that does not lead to v changes nothing
-  pub best_skip : {j best : ℕ} → Best C S E t W v j best → ¬ (LeadsTo C t W v (link_at (chart C S E t W) v j)) → Best C S E t W v (j + 1) best
-  best_skip {j} {best} b never = record { from = λ h. let (l, (i, k, q)) = b.from h in (l, (i, omega arith, q)); least = λ i h l. by i (dec_lt i j) h l }
-    where
-      by : (i : ℕ) → Dec (i < j) → i < j + 1 → LeadsTo C t W v (link_at (chart C S E t W) v i) →
-          (0 < best) × (cell_at C t (best - 1) ≤ cell_at C t (link_at (chart C S E t W) v i - 1))
-      by i (yes k) h l = b.least i k l
-      by i (no k) h l =
-          let e : i ≡ j = omega arith in
-          absurd (never (subst (λ (x : ℕ). LeadsTo C t W v (link_at (chart C S E t W) v x)) e l))
-
-  -- one that does is taken where its cell number is less
-  pub best_more : {j best r : ℕ} → Best C S E t W v j best → LeadsTo C t W v (link_at (chart C S E t W) v j) →
-      Lesser C t best (link_at (chart C S E t W) v j) r → Best C S E t W v (j + 1) r
-  best_more {j} {best} {r} b l s = record {
-    from = λ h. ⊎_elim
-        (λ (k : (0 < best) × (r ≡ best)).
-        let (m, (i, n, q)) = b.from k.0 in
-        (subst (LeadsTo C t W v) (sym k.1) m, (i, omega arith, q ∙ sym k.1)))
-        (λ (k : r ≡ link_at (chart C S E t W) v j). (subst (LeadsTo C t W v) (sym k) l, (j, omega arith, sym k)))
-        s.one_of;
-    least = λ i h m. by i (dec_lt i j) h m;
+  pub best_skip : {j : ℕ} {best : Option ℕ} → Best C S E t W v j best → ((x : ℕ) → link_at (chart C S E t W) v j ≡ Some x → ¬ (LeadsTo C t W v x)) → Best C S E t W v (j + 1) best
+  best_skip {j} {best} b never = record {
+    from = λ u h. let (l, (i, k, q)) = b.from u h in (l, (i, omega arith, q));
+    least = λ i x h q l. by i x (dec_lt i j) h q l;
   }
     where
-      some : 0 < r
-      some = ⊎_elim (λ (k : (0 < best) × (r ≡ best)). omega arith) (λ (k : r ≡ link_at (chart C S E t W) v j). omega (arith, l.some)) s.one_of
+      by : (i x : ℕ) → Dec (i < j) → i < j + 1 → link_at (chart C S E t W) v i ≡ Some x → LeadsTo C t W v x →
+          (u : ℕ) × (best ≡ Some u) × (cell_at C t u ≤ cell_at C t x)
+      by i x (yes k) h q l = b.least i x k q l
+      by i x (no k) h q l = let e : i ≡ j = omega arith in absurd (never x (rw e at q) l)
 
-      by : (i : ℕ) → Dec (i < j) → i < j + 1 → LeadsTo C t W v (link_at (chart C S E t W) v i) →
-          (0 < r) × (cell_at C t (r - 1) ≤ cell_at C t (link_at (chart C S E t W) v i - 1))
-      by i (yes k) h m = let (p, q) = b.least i k m in (some, omega (arith, s.first p))
-      by i (no k) h m =
+  -- one that does is taken where its cell number is less
+  pub best_more : {j : ℕ} {best : Option ℕ} {x r : ℕ} → Best C S E t W v j best → link_at (chart C S E t W) v j ≡ Some x → LeadsTo C t W v x →
+      Lesser C t best x r → Best C S E t W v (j + 1) (Some r)
+  best_more {j} {best} {x} {r} b is l s = record {
+    from = λ u h. ⊎_elim
+        (λ (k : best ≡ Some r). let (m, (i, n, q)) = b.from u (k ∙ h) in (m, (i, omega arith, q)))
+        (λ (k : r ≡ x). let e : x ≡ u = sym k ∙ some_one h in (subst (LeadsTo C t W v) e l, (j, omega arith, is ∙ ap (λ (y : ℕ). Some y) e)))
+        s.one_of;
+    least = λ i y h q m. by i y (dec_lt i j) h q m;
+  }
+    where
+      by : (i y : ℕ) → Dec (i < j) → i < j + 1 → link_at (chart C S E t W) v i ≡ Some y → LeadsTo C t W v y →
+          (u : ℕ) × (Some r ≡ Some u) × (cell_at C t u ≤ cell_at C t y)
+      by i y (yes k) h q m = let (u, e, f) = b.least i y k q m in (r, refl, omega (arith, s.first u e))
+      by i y (no k) h q m =
           let e : i ≡ j = omega arith in
-          (some, subst (λ (x : ℕ). cell_at C t (r - 1) ≤ cell_at C t (link_at (chart C S E t W) v x - 1)) (sym e) s.second)
+          let same : x ≡ y = some_one (sym is ∙ rw e at q) in
+          (r, refl, subst (λ (z : ℕ). cell_at C t r ≤ cell_at C t z) same s.second)
 
--- what the code compares tells whether a link leads to v
+-- what the code compares tells whether a link to u leads to v
 pub leads_tells :
-    (C : List ℕ) (t : Trip) (W : List ℕ) (v link : ℕ) {settled near far a b leg : ℕ} → (link ≡ 0 → ⊥) → settled ≡ settled_at t W (link - 1) → (settled ≡ 0 → ⊥) →
-    near ≡ label_at t W (link - 1) → far ≡ label_at t W v → a ≡ cell_at C t (link - 1) → b ≡ cell_at C t v → leg ≡ apart t.w a b →
-    Tells (LeadsTo C t W v link) (eqb (near + leg) far)
-leads_tells C t W v link {settled} {near} {far} {a} {b} {leg} some s more n f qa qb q =
-    let q' : leg ≡ apart t.w (cell_at C t (link - 1)) (cell_at C t v) = rw (qa, qb) at q in
+    (C : List ℕ) (t : Trip) (W : List ℕ) (v u : ℕ) {settled near far a b leg : ℕ} → settled ≡ settled_at t W u → (settled ≡ 0 → ⊥) →
+    near ≡ label_at t W u → far ≡ label_at t W v → a ≡ cell_at C t u → b ≡ cell_at C t v → leg ≡ apart t.w a b →
+    Tells (LeadsTo C t W v u) (eqb (near + leg) far)
+leads_tells C t W v u {settled} {near} {far} {a} {b} {leg} s more n f qa qb q =
+    let q' : leg ≡ apart t.w (cell_at C t u) (cell_at C t v) = rw (qa, qb) at q in
     record {
-      yes = λ h. let e = eqb-true (near + leg) far h in record { some = omega arith; settled = omega arith; adds = omega arith };
+      yes = λ h. let e = eqb-true (near + leg) far h in record { settled = omega arith; adds = omega arith };
       no = λ h l. eqb-false (near + leg) far h (let z = l.adds in omega arith);
     }
 
@@ -123,12 +122,11 @@ module _ {a : Journey} {C S E : List ℕ} {t : Trip} {W : List ℕ} (k : Walked 
 
   module _ {v : ℕ} (r : Reached t W v) (other : v ≢ t.from) where
     -- what is settled and adds up leads to v
-    leads_made : (u e : ℕ) → SettledAt (labels_of (t.k + 2) W) u e → e + (net (chart C S E t W)).weight u v ≡ label_at t W v - 1 → LeadsTo C t W v (u + 1)
+    leads_made : (u e : ℕ) → SettledAt (labels_of (t.k + 2) W) u e → e + (net (chart C S E t W)).weight u v ≡ label_at t W v - 1 → LeadsTo C t W v u
     leads_made u e (q, l) sum =
-        let less : u + 1 - 1 ≡ u = omega arith in
         let z = some_read (label_at t W u) e l in
         let p = (entry_settled v r.settled).0 in
-        record { some = omega arith; settled = rw less (ltb-true 0 (settled_at t W u) q); adds = rw less (omega arith) }
+        record { settled = ltb-true 0 (settled_at t W u) q; adds = omega arith }
 
     -- v is settled at its label
     at_v : SettledAt (labels_of (t.k + 2) W) v (label_at t W v - 1)
@@ -142,33 +140,31 @@ module _ {a : Journey} {C S E : List ℕ} {t : Trip} {W : List ℕ} (k : Walked 
     no_further : label_at t W v - 1 ≤ label_at t W t.to - 1
     no_further = let n = r.near in omega arith
 
-    module _ {best : ℕ} (b : Best C S E t W v (link_count (chart C S E t W) v) best) where
+    module _ {best : Option ℕ} (b : Best C S E t W v (link_count (chart C S E t W) v) best) where
       -- some link leads to v
-      pub best_some : 0 < best
+      pub best_some : (u : ℕ) × (best ≡ Some u)
       best_some =
           let (u, e, (i, l, q), s, m) = some_labelled k.charted k.sound at_goal at_v no_further other in
-          (b.least i l (subst (LeadsTo C t W v) (sym q) (leads_made u e s m))).0
+          let (x, z, f) = b.least i u l q (leads_made u e s m) in
+          (x, z)
 
       -- and the best of all is the place before v.
-      pub best_prior : Prior a C S E t W v (best - 1)
-      best_prior =
-          let (l, (i, n, q)) = b.from best_some in
-          let (p, s) = entry_settled (best - 1) l.settled in
-          let g : link_at (chart C S E t W) v i ≡ best - 1 + 1 = let m = best_some in omega arith in
-          let j : (net (chart C S E t W)).Link v (best - 1) = (i, n, g) in
-          let sum : label_at t W (best - 1) - 1 + (net (chart C S E t W)).weight (best - 1) v ≡ label_at t W v - 1 = let m = l.adds in omega arith in
-          let less = adds_nearer k.charted (best - 1) v (label_at t W v - 1) (label_at t W (best - 1) - 1) j (settled_used k.charted k.sound at_v) sum in
+      pub best_prior : (u : ℕ) → best ≡ Some u → Prior a C S E t W v u
+      best_prior u is =
+          let (l, j) = b.from u is in
+          let (p, s) = entry_settled u l.settled in
+          let sum : label_at t W u - 1 + (net (chart C S E t W)).weight u v ≡ label_at t W v - 1 = let m = l.adds in omega arith in
+          let less = adds_nearer k.charted u v (label_at t W v - 1) (label_at t W u - 1) j (settled_used k.charted k.sound at_v) sum in
           record {
-            inside = reached_inside (best - 1) l.settled;
+            inside = reached_inside u l.settled;
             linked = j;
             settled = l.settled;
             nearer = omega arith;
             before =
-                before_labelled k.charted k.sound at_goal at_v no_further (best - 1) (label_at t W (best - 1) - 1) j s sum
+                before_labelled k.charted k.sound at_goal at_v no_further u (label_at t W u - 1) j s sum
                 (λ x y (h, m, z) c d.
-                let back : x + 1 - 1 ≡ x = omega arith in
-                let f = (b.least h m (subst (LeadsTo C t W v) (sym z) (leads_made x y c d))).1 in
-                rw (z, back) at f);
+                let (o, e, f) = b.least h x m z (leads_made x y c d) in
+                rw (← some_one (sym is ∙ e)) at f);
           }
 
 -- ---- the column that leads along the chain

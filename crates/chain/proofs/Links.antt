@@ -7,6 +7,7 @@ use native.Mathlib.Numerals.{add-one}
 use native.Mathlib.Omega.{arith}
 use lib.ListN.{length, get_or}
 use borrow.Author.Tests.{lt-ltb}
+use Rattle.std.specs.Prelude.{Some}
 use Rattle.floor.specs.Words.{place_of}
 use Rattle.ground.specs.Kind.{walkers}
 use Rattle.ground.proofs.Lines.{direct_line}
@@ -18,7 +19,7 @@ use Rattle.effort.specs.Net.{Joined}
 use Rattle.ground.proofs.Numbers.{same_cell, within}
 use Rattle.places.specs.Places.{index_of}
 use Rattle.places.specs.Chart.{Chart, flagged, arcs_of, arcs, corner_link, cell, net}
-use Rattle.places.proofs.Cells.{index_at, index_of_entry}
+use Rattle.places.proofs.Cells.{some_one, index_at, index_of_entry}
 use Rattle.places.proofs.Links.{flag_some, corner_arc, corner_start, corner_goal, link_corner, link_start, link_goal, count_end, count_corner}
 use Rattle.chain.specs.Charted.{DirectCells, Charted, Used}
 use Rattle.chain.proofs.Entries.{in_index}
@@ -26,7 +27,7 @@ use Rattle.chain.proofs.Corners.{corners_ascend, neighbour_linked, linked_neighb
 use Rattle.chain.proofs.Places.{stands, cell_corner, cell_start, cell_beyond, cell_goal, corner_within, corner_turns, cell_place, start_own, goal_own, corner_no_start, corner_no_goal}
 
 -- a flag that is set leads to its place
-set_flagged : (L : List ℕ) (i place : ℕ) → 0 < get_or L i 0 → flagged L i place ≡ place + 1
+set_flagged : (L : List ℕ) (i place : ℕ) → 0 < get_or L i 0 → flagged L i place ≡ Some place
 unfolding flagged
 set_flagged L i place l = rw (lt-ltb 0 (get_or L i 0) l)
 
@@ -50,26 +51,26 @@ module _ (𝓒 : Chart) where
   -- a link of a corner is one of these
   corner_links : (u v : ℕ) → u < 𝓒.trip.k → (net 𝓒).Link u v → CornerLinks u v
   corner_links u v l (j, m, e) =
-      ⊎_elim (λ (a : j < arcs 𝓒 u). inl (j, a, let q = sym (corner_arc 𝓒 u j a) ∙ f in omega arith))
+      ⊎_elim (λ (a : j < arcs 𝓒 u). inl (j, a, some_one (sym (corner_arc 𝓒 u j a) ∙ f)))
       (⊎_elim
       (λ (a : j ≡ arcs 𝓒 u). let q = flag_some 𝓒.by_start u 𝓒.trip.k v (sym (corner_start 𝓒 u j a) ∙ f) in inr (inl (sym q.1, q.0)))
       (λ (a : arcs 𝓒 u < j). let q = flag_some 𝓒.by_goal u (𝓒.trip.k + 1) v (sym (corner_goal 𝓒 u j a) ∙ f) in inr (inr (sym q.1, q.0))))
       (stands j (arcs 𝓒 u))
     where
-      f : corner_link 𝓒 u j ≡ v + 1
+      f : corner_link 𝓒 u j ≡ Some v
       f = sym (link_corner 𝓒 u j l) ∙ e
 
   -- and each of these is a link
   links_corner : (u v : ℕ) → u < 𝓒.trip.k → CornerLinks u v → (net 𝓒).Link u v
   links_corner u v l (inl (j, a, e)) =
-      (j, (let c = count_corner 𝓒 u l in omega arith), link_corner 𝓒 u j l ∙ corner_arc 𝓒 u j a ∙ ap (λ (x : ℕ). x + 1) e)
+      (j, (let c = count_corner 𝓒 u l in omega arith), link_corner 𝓒 u j l ∙ corner_arc 𝓒 u j a ∙ ap (λ (x : ℕ). Some x) e)
   links_corner u v l (inr (inl (e, f))) = (
     arcs 𝓒 u,
     (let c = count_corner 𝓒 u l in omega arith),
     link_corner 𝓒 u (arcs 𝓒 u) l
         ∙ corner_start 𝓒 u (arcs 𝓒 u) refl
         ∙ set_flagged 𝓒.by_start u 𝓒.trip.k f
-        ∙ ap (λ (x : ℕ). x + 1) (sym e),
+        ∙ ap (λ (x : ℕ). Some x) (sym e),
   )
   links_corner u v l (inr (inr (e, f))) = (
     arcs 𝓒 u + 1,
@@ -77,7 +78,7 @@ module _ (𝓒 : Chart) where
     link_corner 𝓒 u (arcs 𝓒 u + 1) l
         ∙ corner_goal 𝓒 u (arcs 𝓒 u + 1) (omega arith)
         ∙ set_flagged 𝓒.by_goal u (𝓒.trip.k + 1) f
-        ∙ ap (λ (x : ℕ). x + 1) (sym e),
+        ∙ ap (λ (x : ℕ). Some x) (sym e),
   )
 
   -- a link of the start's own place leads to a corner with its flag

@@ -1,6 +1,6 @@
 -- The chain of places back from a settled goal, and the column that leads along it.
 -- Assumes nothing.
-use Rattle.std.specs.Prelude.{ℕ, ◌+◌, ◌*◌, ◌-◌, ◌/◌, ◌%◌, ◌≤◌, ◌<◌, true, List, [], ◌∷◌, ◌⊎◌, ◌≡◌, length, get_or}
+use Rattle.std.specs.Prelude.{ℕ, ◌+◌, ◌*◌, ◌-◌, ◌/◌, ◌%◌, ◌≤◌, ◌<◌, true, List, [], ◌∷◌, Option, Some, ◌⊎◌, ◌≡◌, length, get_or}
 use Rattle.lengths.specs.Lengths.{len_of}
 use Rattle.lengths.specs.declared.Length.{Length}
 use Rattle.plan.specs.Plan.{Lists}
@@ -39,17 +39,16 @@ label_at t W v = get_or (column_of (t.k + 2) W Label) v 0
 abbrev pub settled_at : Trip → List ℕ → ℕ → ℕ
 settled_at t W v = get_or (column_of (t.k + 2) W Settled) v 0
 
--- a link, one more than a place or 0 for none, leads to v on a shortest walk: its place is settled, and its label and the leg make v's label
-pub record LeadsTo (C : List ℕ) (t : Trip) (W : List ℕ) (v link : ℕ) : Type 0 where
-  pub some : 0 < link
-  pub settled : 0 < settled_at t W (link - 1)
-  pub adds : label_at t W (link - 1) + apart t.w (cell_at C t (link - 1)) (cell_at C t v) ≡ label_at t W v
+-- a link to place u leads to v on a shortest walk: u is settled, and its label and the leg make v's label
+pub record LeadsTo (C : List ℕ) (t : Trip) (W : List ℕ) (v u : ℕ) : Type 0 where
+  pub settled : 0 < settled_at t W u
+  pub adds : label_at t W u + apart t.w (cell_at C t u) (cell_at C t v) ≡ label_at t W v
 
--- r is the one of two links with the lesser cell number; the first may be none
-pub record Lesser (C : List ℕ) (t : Trip) (a b r : ℕ) : Type 0 where
-  pub one_of : ((0 < a) × (r ≡ a)) ⊎ (r ≡ b)
-  pub first : 0 < a → cell_at C t (r - 1) ≤ cell_at C t (a - 1)
-  pub second : cell_at C t (r - 1) ≤ cell_at C t (b - 1)
+-- r is the one of two places with the lesser cell number; the first may be none
+pub record Lesser (C : List ℕ) (t : Trip) (a : Option ℕ) (b r : ℕ) : Type 0 where
+  pub one_of : (a ≡ Some r) ⊎ (r ≡ b)
+  pub first : (x : ℕ) → a ≡ Some x → cell_at C t r ≤ cell_at C t x
+  pub second : cell_at C t r ≤ cell_at C t b
 
 -- v is a settled place no further than the goal
 pub record Reached (t : Trip) (W : List ℕ) (v : ℕ) : Type 0 where

@@ -2,3 +2,4 @@
 pub mod Route
 pub mod Charted
 pub mod Chain
+pub mod Lent

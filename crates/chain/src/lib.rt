@@ -1,170 +1,134 @@
-// The chain of places back from a settled goal, and the route along it. Links and the column NEXT hold one more than a place, and 0 for
-// none.
+// The chain of places back from a settled goal, and the route along it. The column NEXT holds one more than a place, and 0 for none, as
+// it is a part of a work space of numbers that is cleared by zeros.
 #![tactic(auto)]
 
-ghost use Rattle.std.specs.Prelude.{◌≡◌, ◌≢◌, List, ◌∷◌, ℕ, ◌+◌, ◌-◌, ◌<◌, ◌≤◌, ◌%◌, ◌/◌, length};
+ghost use Rattle.std.specs.Prelude.{◌≡◌, ◌≢◌, List, ℕ, ◌+◌, ◌*◌, ◌<◌, ◌≤◌, ◌%◌, ◌/◌, length};
 ghost use Rattle.lengths.specs.Lengths.{len_of};
 ghost use Rattle.floor.specs.Refusals.{Tells};
-ghost use Rattle.floor.specs.Words.{place_of};
 ghost use Rattle.ground.specs.Kind.{octile};
 ghost use Rattle.corners.specs.Lists.{written};
 ghost use Rattle.places.specs.Columns.{Next, Only};
-ghost use Rattle.places.specs.Places.{Indexed, cell_at, TwoCells};
-ghost use Rattle.offers.specs.Tree.{Room};
-ghost use Rattle.line.specs.Cells.{steps, legs, Cell, LineWritten};
-ghost use Rattle.chain.specs.Chain.{Journey, Walked, LeadsTo, Lesser, Reached, Prior, cells_at, Linked, Paved};
+ghost use Rattle.places.specs.Places.{cell_at};
+ghost use Rattle.places.specs.Roads.{on, of_places, on_places};
+ghost use Rattle.line.specs.Cells.{steps, LineWritten};
+ghost use Rattle.chain.specs.Chain.{Journey, Walked, LeadsTo, Lesser, Reached, Prior, Linked, Paved};
+ghost use Rattle.chain.specs.Lent.{place_at, AtCell, cells_along};
 
+use floor::Cell;
 use lengths::Length;
-use places::Trip;
+use places::Roads;
 
-// A number of 32 bits as an index. Sums of two such do not wrap.
-fn size(x: u32) -> usize
-    ensures same { result ≡ x }
-    ensures bounded { result < 4294967296 }
+// Whether a link to place u leads to v on a shortest walk: u is settled, and its label and the leg make v's label.
+fn leads_to(roads: &Roads, work: &[u32], v: usize, u: usize) -> bool
+    requires room { 6 * (roads.now.trip.k + 2) ≤ length work.now }
+    requires inside { (v < roads.now.trip.k + 2) × (u < roads.now.trip.k + 2) }
+    ensures { Tells (on_places LeadsTo roads.now work.now v u) result }
 {
-    x as usize
-}
-
-// Whether a link leads to v on a shortest walk: its place is settled, and its label and the leg make v's label.
-fn leads_to(corners: &[u16], t: Trip, work: &[u32], v: usize, link: usize) -> bool
-    requires room { Room corners.now t work.now }
-    requires inside { (v < t.k + 2) × (link ≤ t.k + 2) }
-    requires cells { TwoCells t.w (cell_at corners.now t (link - 1)) (cell_at corners.now t v) }
-    ensures { Tells (LeadsTo corners.now t work.now v link) result }
-{
-    if link == 0 {
+    let n = roads.trip.k + 2;
+    if places::get(work, n, places::SETTLED, u) == 0 {
         return false;
     }
-    let u = link - 1;
-    let settled = places::get(work, t.k + 2, places::SETTLED, u);
-    if settled == 0 {
-        return false;
-    }
-    let near = places::get(work, t.k + 2, places::LABEL, u);
-    let far = places::get(work, t.k + 2, places::LABEL, v);
-    let a = places::cell_of(corners, t, u);
-    let b = places::cell_of(corners, t, v);
-    let leg = places::leg(t.w, a, b);
-    size(near) + size(leg) == size(far)
+    let near = places::get(work, n, places::LABEL, u);
+    let far = places::get(work, n, places::LABEL, v);
+    let a = places::cell_of(roads, u);
+    let b = places::cell_of(roads, v);
+    let leg = places::leg(roads.trip.w, a, b);
+    u64::from(near) + u64::from(leg) == u64::from(far)
 }
 
-// The one of two links with the lesser cell number. The first may be none.
-fn lesser(corners: &[u16], t: Trip, a: usize, b: usize) -> usize
-    requires corners { length corners.now ≡ t.k }
-    requires some { 0 < b }
-    ensures { Lesser corners.now t a b result }
+// The one of two places with the lesser cell number. The first may be none.
+fn lesser(roads: &Roads, a: Option<usize>, b: usize) -> usize
+    ensures { on_places Lesser roads.now a b result }
 {
-    if a == 0 {
+    let Some(a) = a else {
         return b;
-    }
-    let p = places::cell_of(corners, t, a - 1);
-    let q = places::cell_of(corners, t, b - 1);
-    if q < p {
-        return b;
-    }
-    a
+    };
+    let p = places::cell_of(roads, a);
+    let q = places::cell_of(roads, b);
+    if q < p { b } else { a }
 }
 
 // The place before v, which is settled, no further than the goal, and not the start: of those linked to v that lead to it, the one with
-// the least cell number.
-fn place_before(
-    corners: &[u16],
-    starts: &[u16],
-    neighbours: &[u16],
-    t: Trip,
-    table: &[u16],
-    work: &[u32],
-    v: usize,
-) -> usize
-    requires walked { (a : Journey) × Walked a corners.now starts.now neighbours.now t work.now }
-    requires reached { Reached t work.now v }
-    requires other { v ≢ t.from }
-    requires indexed { Indexed corners.now table.now }
-    ensures { (a : Journey) → Walked a corners.now starts.now neighbours.now t work.now → Prior a corners.now starts.now neighbours.now t work.now v result }
+// the least cell number. A loop and no chain of iterators: what is asked of a link and its place is known where the loop has them.
+fn place_before(roads: &Roads, work: &[u32], v: usize) -> usize
+    requires walked { (a : Journey) × on (Walked a) roads.now work.now }
+    requires reached { Reached roads.now.trip work.now v }
+    requires other { v ≢ roads.now.trip.from }
+    ensures { (a : Journey) → on (Walked a) roads.now work.now → on (Prior a) roads.now work.now v result }
 {
-    let count = places::link_count(starts, t.k, v);
-    let mut best: usize = 0;
-    let mut j: usize = 0;
-    while j < count {
-        let link = places::link_at(corners, starts, neighbours, t, table, work, v, j);
-        if leads_to(corners, t, work, v, link) {
-            best = lesser(corners, t, best, link);
+    let count = places::link_count(roads, v);
+    let mut best = None;
+    for j in 0..count {
+        if let Some(u) = places::link_at(roads, work, v, j) {
+            if leads_to(roads, work, v, u) {
+                best = Some(lesser(roads, best, u));
+            }
         }
-        j += 1;
     }
-    best - 1
+    best.unwrap()
+}
+
+// Where place i stands, as the end of a leg.
+fn end_of(roads: &Roads, i: usize) -> Cell
+    requires { 0 < roads.now.trip.w }
+    ensures { (result.x ≡ of_places cell_at roads.now i % roads.now.trip.w) × (result.y ≡ of_places cell_at roads.now i / roads.now.trip.w) }
+{
+    Cell::numbered(roads.trip.w, places::cell_of(roads, i))
 }
 
 // The length of the leg from place u to place v.
-fn leg_length(corners: &[u16], t: Trip, u: usize, v: usize) -> Length
-    requires corners { length corners.now ≡ t.k }
-    requires cells { TwoCells t.w (cell_at corners.now t u) (cell_at corners.now t v) }
-    ensures { len_of result ≡ octile (place_of t.w (cell_at corners.now t u)) (place_of t.w (cell_at corners.now t v)) }
+fn leg_length(roads: &Roads, u: usize, v: usize) -> Length
+    requires { (u < roads.now.trip.k + 2) × (v < roads.now.trip.k + 2) }
+    ensures { len_of result ≡ octile (place_at roads.now u) (place_at roads.now v) }
 {
-    let w = t.w;
-    let a = places::cell_of(corners, t, u);
-    let b = places::cell_of(corners, t, v);
-    line::line_length(a % w, a / w, b % w, b / w)
+    line::line_length(end_of(roads, u), end_of(roads, v))
 }
 
 // Puts into the column NEXT, at each place of the chain but the goal, one more than the place after it, and says the chain's length.
-pub fn link_back(
-    corners: &[u16],
-    starts: &[u16],
-    neighbours: &[u16],
-    t: Trip,
-    table: &[u16],
-    work: &mut [u32],
-) -> Length
-    requires walked { (a : Journey) × Walked a corners.now starts.now neighbours.now t work.old }
-    requires indexed { Indexed corners.now table.now }
-    ensures only { Only (t.k + 2) work.old Next work.new }
-    ensures linked { (a : Journey) → Walked a corners.now starts.now neighbours.now t work.old → Linked a corners.now t work.new result }
+// Which place comes before is found at each turn, so no range has them.
+pub fn link_back(roads: &Roads, work: &mut [u32]) -> Length
+    requires { (a : Journey) × on (Walked a) roads.now work.old }
+    ensures only { Only (roads.now.trip.k + 2) work.old Next work.new }
+    ensures linked { (a : Journey) → on (Walked a) roads.now work.old → on_places (Linked a) roads.now work.new result }
 {
-    let from = t.from;
-    let mut v = t.to;
-    let mut straight: u16 = 0;
-    let mut diagonal: u16 = 0;
-    while v != from {
-        let u = place_before(corners, starts, neighbours, t, table, work, v);
-        let leg = leg_length(corners, t, u, v);
+    let mut v = roads.trip.to;
+    let mut straight = 0;
+    let mut diagonal = 0;
+    while v != roads.trip.from {
+        let u = place_before(roads, work, v);
+        let leg = leg_length(roads, u, v);
         straight += leg.straight;
         diagonal += leg.diagonal;
-        places::put(work, t.k + 2, places::NEXT, u, v as u32 + 1);
+        places::put(work, roads.trip.k + 2, places::NEXT, u, v as u32 + 1);
         v = u;
     }
-    Length {
-        straight: straight,
-        diagonal: diagonal,
-    }
+    Length { straight, diagonal }
 }
 
-// Writes the leg from place v to place u from entry `from` on, and says which entry is next.
-fn write_leg(corners: &[u16], t: Trip, v: usize, u: usize, route: &mut [u16], from: usize) -> usize
-    requires corners { length corners.now ≡ t.k }
-    requires first { Cell t.w (cell_at corners.now t v % t.w) (cell_at corners.now t v / t.w) }
-    requires second { Cell t.w (cell_at corners.now t u % t.w) (cell_at corners.now t u / t.w) }
-    requires room { from + steps (place_of t.w (cell_at corners.now t v)) (place_of t.w (cell_at corners.now t u)) ≤ length route.old }
-    ensures { LineWritten t.w (place_of t.w (cell_at corners.now t v)) (place_of t.w (cell_at corners.now t u)) route.old from result route.new }
+// Writes the leg from place v to place u from entry `from` on, and says which entry is next. The whole route is lent, as
+// `line::write_line` promises what it is as a whole.
+fn write_leg(roads: &Roads, v: usize, u: usize, route: &mut [u16], from: usize) -> usize
+    requires first { AtCell roads.now v }
+    requires second { AtCell roads.now u }
+    requires room { from + steps (place_at roads.now v) (place_at roads.now u) ≤ length route.old }
+    ensures { LineWritten roads.now.trip.w (place_at roads.now v) (place_at roads.now u) route.old from result route.new }
 {
-    let w = t.w;
-    let a = places::cell_of(corners, t, v);
-    let b = places::cell_of(corners, t, u);
-    line::write_line(w, a % w, a / w, b % w, b / w, route, from)
+    let a = end_of(roads, v);
+    let b = end_of(roads, u);
+    line::write_line(roads.trip.w, a, b, route, from)
 }
 
-// Writes the cells of the route, leg by leg, along the column NEXT.
-pub fn write_route(corners: &[u16], t: Trip, work: &[u32], route: &mut [u16])
-    requires { (places : List ℕ) × Paved corners.now t work.now (length route.old) places }
-    ensures { (places : List ℕ) → Paved corners.now t work.now (length route.old) places → route.new ≡ written (t.start ∷ legs t.w (cells_at corners.now t places)) route.old }
+// Writes the cells of the route, leg by leg, along the column NEXT. The next place is read from the list, so no range has them.
+pub fn write_route(roads: &Roads, work: &[u32], route: &mut [u16])
+    requires { (ps : List ℕ) × on_places Paved roads.now work.now (length route.old) ps }
+    ensures { (ps : List ℕ) → on_places Paved roads.now work.now (length route.old) ps → route.new ≡ written (cells_along roads.now ps) route.old }
 {
-    let to = t.to;
-    route[0] = t.start as u16;
-    let mut next: usize = 1;
-    let mut v = t.from;
-    while v != to {
-        let u = size(places::get(work, t.k + 2, places::NEXT, v)) - 1;
-        next = write_leg(corners, t, v, u, route, next);
+    route[0] = roads.trip.start as u16;
+    let mut next = 1;
+    let mut v = roads.trip.from;
+    while v != roads.trip.to {
+        let u = places::get(work, roads.trip.k + 2, places::NEXT, v) as usize - 1;
+        next = write_leg(roads, v, u, route, next);
         v = u;
     }
 }

@@ -4,16 +4,19 @@ use mathlib.Core.Bool.{Bool, true, false, ◌&&◌}
 use mathlib.Core.List.{List}
 use mathlib.Core.Path.{◌≡◌, refl, sym, ap, subst, ◌∙◌}
 use native.Mathlib.Decide.{dec_le}
-use native.Mathlib.Nat.{mul-le-mul_right, suc-mul, mul_comm, mul-add-mod_self_right, mod-eq_of_lt}
+use native.Mathlib.Nat.{add-zero, mul-le-mul_right, suc-mul, mul_comm, mul-add-mod_self_right, mod-eq_of_lt}
 use native.Mathlib.Omega.{arith}
 use borrow.Author.Tests.{lt-ltb, le-ltb}
 use lib.Dec.{ltb}
-use Rattle.floor.specs.Board.{Board, Place, corner}
+use Rattle.floor.specs.Board.{Place, corner}
 use Rattle.floor.specs.Words.{board, number_of, place_of}
 use Rattle.masks.specs.Masks.{bit_set, Mask, spot}
+use Rattle.masks.specs.Sought.{corner_blocked}
 use Rattle.floor.proofs.Tables.{not_so}
 use Rattle.ground.proofs.Walks.{place_eq}
 use Rattle.corners.specs.Corners.{corner_cell}
+use Rattle.corners.specs.declared.bits.SetBits.{SetBits}
+use Rattle.corners.specs.Bits.{begun}
 use Rattle.corners.specs.Chunks.{Chunk, Span, LastSpan, RowBits, in_row, NextBit}
 use Rattle.ground.proofs.Numbers.{number_of_cell, place_of_number, column_in, row_in, within}
 
@@ -93,11 +96,6 @@ pub row_bits : (w c mask : ℕ) (f : Place → Bool) → c % w % 64 ≡ 0 → Ma
     RowBits w (λ k. f (place_of w k)) c mask
 row_bits w c mask f b m i l k = m i l ∙ ap f (place_on w c i b k)
 
--- no blocked place is a turning point
-corner_blocked : (B : Board) (p : Place) → B p.x p.y ≡ false → corner B p ≡ false
-unfolding corner
-corner_blocked B p e = rw e
-
 -- a mask of turning points has none past the row's end
 pub corner_row : (w h : ℕ) (words : List ℕ) (c mask : ℕ) → c % w % 64 ≡ 0 → Mask (λ i. corner (board w h words) (spot (c / w + 1) (c % w / 64) i)) mask →
     Mask (in_row w (corner_cell w h words) c) mask
@@ -112,12 +110,12 @@ corner_row w h words c mask b m i l = by (dec_le w (c % w + i))
         rw (lt-ltb (c % w + i) w o) (row_bits w c mask (corner (board w h words)) b m i l o)
 
 -- ---- a chunk's bits
--- P holds of as many of a chunk's n cells as are passed, and bit i is the next one that is 1
-pub record UpTo (n mask : ℕ) (P : ℕ → Type 0) (i : ℕ) : Type 0 where
-  pub passed : ℕ
-  pub in_chunk : passed ≤ n
-  pub so : P passed
-  pub next : NextBit mask passed i
+-- those of its mask that are still to be given, where P holds of the cells passed
+pub record Left (w c n : ℕ) (f : ℕ → Bool) (P : ℕ → Type 0) (s : SetBits) : Type 0 where
+  pub bits : Mask (in_row w f c) s.mask
+  pub all : s.end ≡ n
+  pub passed : s.from ≤ n
+  pub so : P (c + s.from)
 
 module _ {w h c n : ℕ} (k : Chunk w h c n) (f : ℕ → Bool) (mask : ℕ) where
   -- a bit of a mask of the row is that of a cell of the chunk
@@ -129,13 +127,45 @@ module _ {w h c n : ℕ} (k : Chunk w h c n) (f : ℕ → Bool) (mask : ℕ) whe
     pub bit_told : (b : Bool) (i : ℕ) → i < n → b ≡ bit_set mask i → b ≡ f (c + i)
     bit_told b i l e = e ∙ m i (omega (arith, k.few)) ∙ rw (lt-ltb (c % w + i) w (omega (arith, k.in_one_row)))
 
-    -- no cell passes between a bit and the next one that is 1
-    pub none_between : (s i e : ℕ) → NextBit mask s i → e ≤ i → e ≤ n → (j : ℕ) → j < e - s → f (c + s + j) ≡ false
-    none_between s i e b l o j q =
-        let a : c + (s + j) ≡ c + s + j = omega arith in
-        subst (λ t. f t ≡ false) a
-        (sym (bit_told (bit_set mask (s + j)) (s + j) (omega arith) refl) ∙ b.clear (s + j) (omega arith) (omega arith))
+    -- what holds of the cells below one holds of those below a later one, where no bit between the two is 1
+    pub reach : (P : ℕ → Type 0) → ((a b : ℕ) → P a → a ≤ b → ((j : ℕ) → j < b - a → f (a + j) ≡ false) → P b) →
+        (s e : ℕ) → P (c + s) → s ≤ e → e ≤ n → ((j : ℕ) → s ≤ j → j < e → bit_set mask j ≡ false) → P (c + e)
+    reach P on s e p l o clear = on (c + s) (c + e) p (omega arith) none
+      where
+        none : (j : ℕ) → j < c + e - (c + s) → f (c + s + j) ≡ false
+        none j q =
+            let a : c + (s + j) ≡ c + s + j = omega arith in
+            subst (λ t. f t ≡ false) a
+            (sym (bit_told (bit_set mask (s + j)) (s + j) (omega arith) refl) ∙ clear (s + j) (omega arith) (omega arith))
 
     -- a cell whose bit is the next one that is 1 passes
     pub next_told : (s i : ℕ) → NextBit mask s i → i < n → f (c + i) ≡ true
     next_told s i b l = sym (bit_told (bit_set mask i) i l refl) ∙ b.found (omega (arith, k.few))
+
+-- P holds of the cells below a later one, where none between the two passes
+abbrev pub GoesOn : (ℕ → Bool) → (ℕ → Type 0) → Type 0
+GoesOn f P = (a b : ℕ) → P a → a ≤ b → ((j : ℕ) → j < b - a → f (a + j) ≡ false) → P b
+
+-- at first all bits of a mask are left
+pub all_left : {w c n : ℕ} {f : ℕ → Bool} (P : ℕ → Type 0) (mask : ℕ) (s : SetBits) → s ≡ begun mask n → Mask (in_row w f c) mask → P c → Left w c n f P s
+all_left {c = c} P mask s e m p = rw e (record { bits = m; all = refl; passed = omega arith; so = subst P (sym (add-zero c)) p })
+
+module _ {w h c n : ℕ} (k : Chunk w h c n) (f : ℕ → Bool) (P : ℕ → Type 0) (on : GoesOn f P) (s : SetBits) (u : Left w c n f P s) where
+  module _ (i : ℕ) (b : NextBit s.mask s.from i) (l : i < s.end) where
+    -- the cells before the next bit's are passed
+    pub before_next : P (c + i)
+    before_next = reach k f s.mask u.bits P on s.from i u.so b.low (omega (arith, u.all)) (λ j p q. b.clear j p q)
+
+    -- and its own passes
+    pub next_passes : f (c + i) ≡ true
+    next_passes = next_told k f s.mask u.bits s.from i b (omega (arith, u.all))
+
+    -- what holds when it is passed holds of the bits that are left
+    pub left_after : (Q : ℕ → Type 0) (t : SetBits) → t ≡ record s { from = i + 1 } → Q (c + i + 1) → Left w c n f Q t
+    left_after Q t e q =
+        let a : c + i + 1 ≡ c + (i + 1) = omega arith in
+        rw e (record { bits = u.bits; all = u.all; passed = omega (arith, u.all); so = subst Q a q })
+
+  -- where none is left all cells are passed
+  pub none_left : ((j : ℕ) → s.from ≤ j → j < s.end → bit_set s.mask j ≡ false) → P (c + n)
+  none_left e = reach k f s.mask u.bits P on s.from n u.so u.passed (omega arith) (λ j p q. e j p (omega (arith, u.all)))

@@ -3,3 +3,4 @@ pub mod Chunks
 pub mod Selects
 pub mod Listed
 pub mod Counts
+pub mod Walks

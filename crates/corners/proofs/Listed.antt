@@ -5,9 +5,10 @@ use mathlib.Core.List.{List, ◌++◌}
 use mathlib.Core.Path.{◌≡◌, sym, ap, subst, ◌∙◌}
 use native.Mathlib.Omega.{arith}
 use lib.Dec.{ltb, eqb}
-use lib.ListN.{length, get_or, set, take, drop, length-append, length-take}
+use lib.ListN.{length, get_or, set, take, drop, length-append}
 use lib.Seq.{take-length, drop-append_seam, drop-append-add, drop-drop}
 use borrow.Author.Tests.{ltb-true, eqb-true, eqb-false, lt-ltb, eq-eqb}
+use Rattle.std.specs.Prelude.{None}
 use Rattle.floor.specs.Refusals.{Tells}
 use Rattle.ground.proofs.Logic.{and_left, and_right, not_both}
 use Rattle.corners.specs.Lists.{select}
@@ -98,21 +99,9 @@ module _ (f : ℕ → Bool) where
         subst (λ t. Read f xs t k) p
         (record { count = rw (select_same f n (m - n) e) s.count; first = rw (select_same f n (m - n) e) s.first })
 
-    -- no more are read than there are entries
-    read_few : k ≤ length xs
-    read_few = omega (arith, s.count, ap length s.first, length-take k xs)
-
-    -- what was read is told
-    pub read_told : Told f xs n k
-    read_told = record { read = λ l. s; refused = λ l. absurd (omega (arith, read_few)) }
-
-    -- and so is that an entry is not there
-    pub refused_told : (m : ℕ) → n < m → f n ≡ true → (ltb k (length xs) && eqb (get_or xs k 0) n) ≡ false → Told f xs m (length xs + 1)
-    refused_told m l e b =
-        record {
-          read = λ a. absurd (omega arith);
-          refused = λ a j o p. absurd (not_both (read_entry j (omega arith) e p) b);
-        }
+    -- where an entry is not there, the list is of no more numbers
+    pub refused_told : (m : ℕ) → n < m → f n ≡ true → (ltb k (length xs) && eqb (get_or xs k 0) n) ≡ false → Told f xs m None
+    refused_told m l e b j o p = absurd (not_both (read_entry j (omega arith) e p) b)
 
     -- at the end the list is theirs if it has no other entry
     pub read_all : Tells (xs ≡ select f n) (eqb k (length xs))

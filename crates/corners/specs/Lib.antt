@@ -3,3 +3,5 @@ pub mod Lists
 pub mod Listing
 pub mod Corners
 pub mod Chunks
+pub mod Bits
+pub mod Walk

@@ -21,7 +21,6 @@ use Rattle.places.specs.Places.{index_of, Ascending}
 use Rattle.places.specs.Chart.{chart}
 use Rattle.places.specs.declared.Trip.{Trip}
 use Rattle.places.proofs.Cells.{index_of_entry, index_most}
-use Rattle.places.proofs.Columns.{only_same}
 use Rattle.chain.specs.Charted.{Charted, DirectCells}
 use Rattle.chain.proofs.Corners.{corners_ascend, corner_at, corner_index, index_corner}
 use Rattle.ends.specs.Flags.{Flag, Flaggable, Flagging, AllFlagged}
@@ -30,12 +29,7 @@ use Rattle.ends.specs.Trips.{TripOf}
 
 -- ---- the flags of one end
 module _ (w h : ℕ) (words corners : List ℕ) (cell n c : ℕ) (W : List ℕ) (empty : Empty n c W) where
-  -- a cell that is a corner has none
-  pub end_none : corner_cell w h words cell ≡ true → EndFlags w h words corners cell n c W W
-  end_none d =
-      record { only = only_same n W c; flags = λ i l. (λ f. absurd (let e = empty i in omega arith), λ s. not_both d s.0) }
-
-  -- any other has those of all corners that are seen from it
+  -- a cell that is no corner has those of all corners that are seen from it
   pub end_all : corner_cell w h words cell ≡ false → Ascending corners → (W' : List ℕ) → Flagging (Seen w h words cell) corners n c W W' → AllFlagged (Seen w h words cell) corners n c W' →
       EndFlags w h words corners cell n c W W'
   end_all e ascending W' f all =
@@ -114,15 +108,23 @@ module _ (w h : ℕ) (words : List ℕ) (p : Lists) (start goal : ℕ) (W : List
   )
 
   module _ (t : Trip) (trip : TripOf w p.corners start goal t) (A B : List ℕ)
-      (one : EndFlags w h words p.corners start (t.k + 2) ByStart W A)
-      (two : EndFlags w h words p.corners goal (t.k + 2) ByGoal A B) where
+      (one : EndFlags w h words p.corners start (length p.corners + 2) ByStart W A)
+      (two : EndFlags w h words p.corners goal (length p.corners + 2) ByGoal A B) where
     -- how many entries a column has
     abbrev n : ℕ
     n = t.k + 2
 
+    -- the flags of the start, by the trip's count
+    first : EndFlags w h words p.corners start n ByStart W A
+    first = rw trip.count one
+
+    -- and those of the goal
+    second : EndFlags w h words p.corners goal n ByGoal A B
+    second = rw trip.count two
+
     -- a column that neither has changed
     untouched : (c : ℕ) → c ≢ ByStart → c ≢ ByGoal → column_of n B c ≡ column_of n W c
-    untouched c d e = two.only.others c e ∙ one.only.others c d
+    untouched c d e = second.only.others c e ∙ first.only.others c d
 
     -- a start that is listed as a corner has its index as its place
     from_corner : index_of p.corners start < length p.corners → t.from ≡ index_of p.corners start
@@ -140,7 +142,7 @@ module _ (w h : ℕ) (words : List ℕ) (p : Lists) (start goal : ℕ) (W : List
 
     -- the flags of the start are as they were set
     start_column : column_of n B ByStart ≡ column_of n A ByStart
-    start_column = two.only.others ByStart (λ e. omega arith)
+    start_column = second.only.others ByStart (λ e. omega arith)
 
     -- so the work space charts the trip
     pub charted : Charted w h words p start goal (chart p.corners p.starts p.neighbours t B)
@@ -167,15 +169,16 @@ module _ (w h : ℕ) (words : List ℕ) (p : Lists) (start goal : ℕ) (W : List
           to_other = other_place goal t.to (t.k + 1) able.goal_inside trip.to_corner to_other (let e = trip.count in omega arith);
           start_flags = λ i l.
               let e = trip.count in
-              rw start_column (end_direct start n ByStart W A one i (omega arith));
+              rw start_column (end_direct start n ByStart W A first i (omega arith));
           goal_flags = λ i l.
               let e = trip.count in
-              end_direct goal n ByGoal A B two i (omega arith);
+              end_direct goal n ByGoal A B second i (omega arith);
         }
 
     -- where every column was empty before the flags were set, the work space is ready for the search
-    pub prepared : ((c : ℕ) → c < 6 → Empty n c W) → Prepared w h words p start goal t W B
-    prepared empty =
+    pub prepared : ((c : ℕ) → c < 6 → Empty (length p.corners + 2) c W) → Prepared w h words p start goal t W B
+    prepared clean =
+        let empty : (c : ℕ) → c < 6 → Empty n c W = λ c l. rw trip.count (clean c l) in
         record {
           charted = charted;
           blank = record {
@@ -183,6 +186,6 @@ module _ (w h : ℕ) (words : List ℕ) (p : Lists) (start goal : ℕ) (W : List
             settled = λ v. ap (λ (L : List ℕ). get_or L v 0) (untouched Settled (λ e. omega arith) (λ e. omega arith)) ∙ empty Settled (omega arith) v;
           };
           count = trip.count;
-          rest = two.only.rest ∙ one.only.rest;
-          sized = two.only.sized ∙ one.only.sized;
+          rest = second.only.rest ∙ first.only.rest;
+          sized = second.only.sized ∙ first.only.sized;
         }

@@ -7,15 +7,11 @@ use native.Mathlib.Decide.{ℕ_discrete}
 use native.Mathlib.Omega.{arith}
 use lib.ListN.{length, get_or}
 use lib.Seq.{get_or-set_same, get_or-set_other}
-use Rattle.fields.specs.Fields.{Seen}
-use Rattle.plan.specs.Linking.{OneLinked}
-use Rattle.plan.specs.declared.Filled.TheVariants.{To}
-use Rattle.plan.proofs.Parts.{part_in, in_part}
 use Rattle.places.specs.Columns.{column_of, Only, Put}
 use Rattle.places.specs.Places.{index_of}
 use Rattle.places.proofs.Columns.{column_length, only_same, only_trans}
 use Rattle.places.proofs.Cells.{index_at}
-use Rattle.ends.specs.Flags.{Among, Flag, FlagRoom, Flagging}
+use Rattle.ends.specs.Flags.{Flag, FlagRoom, Flagging}
 
 -- the room stays as it was
 pub same_room : {corners : List ℕ} {n c : ℕ} {W W' : List ℕ} → FlagRoom corners n c W → Only n W c W' → FlagRoom corners n c W'
@@ -62,18 +58,3 @@ module _ (P : ℕ → Type 0) (corners : List ℕ) (n c : ℕ) where
         new : (i : ℕ) → Flag n c W' i → Dec (i ≡ index_of corners t) → Flag n c W i ⊎ P (get_or corners i 0)
         new i f (yes e) = inr (subst P (sym (ap (λ (j : ℕ). get_or corners j 0) e ∙ index_at corners t listed)) has)
         new i f (no d) = inl (rw (other i d) at f)
-
--- flags of corners with one property are flags of corners with another that follows from it
-pub flagging_of : {P Q : ℕ → Type 0} {corners : List ℕ} {n c : ℕ} {W W' : List ℕ} → ((t : ℕ) → P t → Q t) → Flagging P corners n c W W' →
-    Flagging Q corners n c W W'
-flagging_of f p = record { only = p.only; kept = p.kept; new = λ i l g. ⊎_elim inl (λ h. inr (f _ h)) (p.new i l g) }
-
--- ---- what was found round a cell
-module _ (w h : ℕ) (words : List ℕ) (cell : ℕ) (entry exit : List ℕ) (k : ℕ) (o : OneLinked w h words cell entry 0 (To k) exit) where
-  -- each entry found is seen from the cell
-  pub found_seen : (t : ℕ) → Among exit k t → Seen w h words cell t
-  found_seen t a = subst (Seen w h words cell) a.2 (o.1.seen _ (part_in exit 0 k (omega arith) o.1.inside a.0 (omega arith) a.1))
-
-  -- and what is seen was found
-  pub seen_found : (t : ℕ) → Seen w h words cell t → Among exit k t
-  seen_found t s = let (j, a, l, e) = in_part exit 0 k (omega arith) o.1.inside t (o.2 t s) in (j, l, e)

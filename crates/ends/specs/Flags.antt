@@ -23,10 +23,6 @@ pub record Flaggable (w h : ℕ) (words clear corners : List ℕ) (cell n c : �
   pub listed : (t : ℕ) → Seen w h words cell t → index_of corners t < length corners
   pub few : length (corner_cells w h words) ≤ 2048
 
--- a cell is one of the first `end` entries of a list
-abbrev pub Among : List ℕ → ℕ → ℕ → Type 0
-Among found end t = (j : ℕ) × (j < end) × (get_or found j 0 ≡ t)
-
 -- flags were set of corners that have the property P, and nothing else changed
 pub record Flagging (P : ℕ → Type 0) (corners : List ℕ) (n c : ℕ) (W W' : List ℕ) : Type 0 where
   pub only : Only n W c W'
@@ -36,3 +32,7 @@ pub record Flagging (P : ℕ → Type 0) (corners : List ℕ) (n c : ℕ) (W W' 
 -- every cell with the property P has its flag
 abbrev pub AllFlagged : (ℕ → Type 0) → List ℕ → ℕ → ℕ → List ℕ → Type 0
 AllFlagged P corners n c W = (t : ℕ) → P t → Flag n c W (index_of corners t)
+
+-- the flags of the corners that have the property P were set, in a column of a trip's work space
+abbrev pub Flagged : (ℕ → Type 0) → List ℕ → ℕ → List ℕ → List ℕ → Type 0
+Flagged P corners c W W' = Flagging P corners (length corners + 2) c W W' × AllFlagged P corners (length corners + 2) c W'

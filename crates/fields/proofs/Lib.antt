@@ -5,3 +5,4 @@ pub mod Nooks
 pub mod Clears
 pub mod Sweeps
 pub mod Passes
+pub mod Rowed

@@ -1,6 +1,6 @@
 -- The sweep that finds the turning points to which a place is linked (000, Algorithm 3, with its slip corrected): eight fields, each of a
 -- diagonal direction and a straight one beside it, row by row. These are states of code; proofs/ ties them to Definition 2.
-use Rattle.std.specs.Prelude.{ℕ, suc, ◌+◌, ◌*◌, ◌/◌, ◌%◌, ◌≤◌, ◌<◌, Bool, true, false, cond, not, ◌&&◌, List, ◌↔◌, ◌⊎◌, ◌≡◌, ltb, length, get_or, replicate}
+use Rattle.std.specs.Prelude.{ℕ, suc, ◌+◌, ◌*◌, ◌/◌, ◌%◌, ◌≤◌, ◌<◌, Bool, true, false, cond, not, ◌&&◌, Option, Some, None, List, ◌↔◌, ◌⊎◌, ◌≡◌, ltb, length, get_or, replicate}
 use Rattle.lengths.specs.Lengths.{gap}
 use Rattle.floor.specs.Board.{Board, Place, at, Free, Dir, dir_at, go, step, corner}
 use Rattle.floor.specs.Words.{board, number_of, place_of, Floor, cell_of}
@@ -79,20 +79,30 @@ pub record Coming (w h : ℕ) (words clear : List ℕ) (sx sy f n reach : ℕ) :
 
 -- row n was passed: what it shows of its own was said, and the sweep has come to the next row, or no later row shows anything
 pub record PassedRow (w h : ℕ) (words : List ℕ) (sx sy f n : ℕ) (r : RowEnd) : Type 0 where
-  pub said : (t : ℕ) → r.shown ≡ suc t → (t < w * h) × OwnIn w h words sx sy f n (place_of w t)
-  pub unsaid : (t : Place) → OwnIn w h words sx sy f n t → r.shown ≡ suc (cell_of w t)
-  pub goes_on : r.reach < 256 → (suc n < 255) × Come (board w h words) (at sx sy) (dir_at (slant f)) (dir_at (side f)) (suc n) r.reach
-  pub ends : 256 ≤ r.reach → (m : ℕ) (t : Place) → n < m → ¬ (ShowsIn w h words sx sy f m t)
+  pub said : (t : ℕ) → r.shown ≡ Some t → (t < w * h) × OwnIn w h words sx sy f n (place_of w t)
+  pub unsaid : (t : Place) → OwnIn w h words sx sy f n t → r.shown ≡ Some (cell_of w t)
+  pub goes_on : (reach : ℕ) → r.reach ≡ Some reach → (reach < 256) × (suc n < 255) × Come (board w h words) (at sx sy) (dir_at (slant f)) (dir_at (side f)) (suc n) reach
+  pub ends : r.reach ≡ None → (m : ℕ) (t : Place) → n < m → ¬ (ShowsIn w h words sx sy f m t)
+
+-- ---- going ahead
+-- what going k steps ahead of cell (x, y) takes: few steps, and none into row 0 or column 0 of the padded board
+pub record Goes (x y dir k : ℕ) : Type 0 where
+  pub column_near : x < 255
+  pub row_near : y < 255
+  pub few : k < 255
+  pub dir_in : dir < 8
+  pub column : 0 < (ahead (dir_at dir) k (at x y)).x
+  pub row : 0 < (ahead (dir_at dir) k (at x y)).y
 
 -- ---- a sweep inside a row
 -- where a sweep stands: at the beginning of its row
 pub record Standing (w h : ℕ) (words : List ℕ) (s : Sweep) : Type 0 where
   pub field_in : s.field < 8
-  pub column_in : s.x < w
-  pub row_in : s.y < h
+  pub column_in : s.at.x < w
+  pub row_in : s.at.y < h
   pub few_rows : s.row < 255
-  pub there : at s.x s.y ≡ ahead (dir_at (slant s.field)) s.row (at s.sx s.sy)
-  pub come : Come (board w h words) (at s.sx s.sy) (dir_at (slant s.field)) (dir_at (side s.field)) s.row s.reach
+  pub there : at s.at.x s.at.y ≡ ahead (dir_at (slant s.field)) s.row (at s.start.x s.start.y)
+  pub come : Come (board w h words) (at s.start.x s.start.y) (dir_at (slant s.field)) (dir_at (side s.field)) s.row s.reach
 
 -- what reading a row takes: a floor, its clearances, and a sweep that stands
 pub record NewRow (w h : ℕ) (words clear : List ℕ) (s : Sweep) : Type 0 where
@@ -101,11 +111,11 @@ pub record NewRow (w h : ℕ) (words clear : List ℕ) (s : Sweep) : Type 0 wher
 
 -- the row begins at no turning point, or is the first
 abbrev pub Plainly : ℕ → ℕ → List ℕ → Sweep → Type 0
-Plainly w h words s = 0 < s.row → corner (board w h words) (at s.x s.y) ≡ false
+Plainly w h words s = 0 < s.row → corner (board w h words) (at s.at.x s.at.y) ≡ false
 
 -- the entry of the clearances that tells how far the row leads
 abbrev pub row_clearance : ℕ → List ℕ → Sweep → ℕ
-row_clearance w clear s = get_or clear (4 * number_of w s.x s.y + side s.field) 0
+row_clearance w clear s = get_or clear (4 * number_of w s.at.x s.at.y + side s.field) 0
 
 -- ---- what is asked of clearances
 -- a free cell of some floor of a width that has these clearances
@@ -135,26 +145,28 @@ abbrev pub opens_out : Board → Dir → Place → Place → Bool
 opens_out B s q p = not (B (go s q).x (go s q).y) && B (go s p).x (go s p).y
 
 -- ---- what a row tells
--- a number, if it is not 0, is one more than a cell that a sweep's row shows
-abbrev pub Said : ℕ → ℕ → List ℕ → Sweep → ℕ → Type 0
+-- a cell, if one is told, is shown by a sweep's row
+abbrev pub Said : ℕ → ℕ → List ℕ → Sweep → Option ℕ → Type 0
 Said w h words s shown =
-    (t : ℕ) → shown ≡ suc t → (t < w * h) × ShowsIn w h words s.sx s.sy s.field s.row (place_of w t)
+    (t : ℕ) → shown ≡ Some t → (t < w * h) × ShowsIn w h words s.start.x s.start.y s.field s.row (place_of w t)
 
 -- and nothing else is shown by the row
-abbrev pub AllSaid : ℕ → ℕ → List ℕ → Sweep → ℕ → Type 0
+abbrev pub AllSaid : ℕ → ℕ → List ℕ → Sweep → Option ℕ → Type 0
 AllSaid w h words s shown =
-    (t : Place) → ShowsIn w h words s.sx s.sy s.field s.row t → shown ≡ suc (cell_of w t)
+    (t : Place) → ShowsIn w h words s.start.x s.start.y s.field s.row t → shown ≡ Some (cell_of w t)
 
 -- a row was read: what it shows, and how many steps are open in it and all rows before
 pub record RowRead (w h : ℕ) (words : List ℕ) (s : Sweep) (r : RowEnd) : Type 0 where
   pub said : Said w h words s r.shown
   pub unsaid : AllSaid w h words s r.shown
-  pub opened : Opened (board w h words) (at s.sx s.sy) (dir_at (slant s.field)) (dir_at (side s.field)) (suc s.row) r.reach
-  pub few : r.reach < 256
+  pub steps : ℕ
+  pub told : r.reach ≡ Some steps
+  pub opened : Opened (board w h words) (at s.start.x s.start.y) (dir_at (slant s.field)) (dir_at (side s.field)) (suc s.row) steps
+  pub few : steps < 256
 
--- a number is kept where a condition holds, and else is 0
-abbrev pub KeptIf : Type 0 → ℕ → ℕ → Type 0
-KeptIf A shown r = (A × (r ≡ shown)) ⊎ ((¬ A) × (r ≡ 0))
+-- what is told is kept where a condition holds, and else nothing is told
+abbrev pub KeptIf : Type 0 → Option ℕ → Option ℕ → Type 0
+KeptIf A shown r = (A × (r ≡ shown)) ⊎ ((¬ A) × (r ≡ None))
 
 -- the number of a field, by whether it goes east, south, and along the rows
 abbrev pub field_by : Bool → Bool → Bool → ℕ

@@ -6,7 +6,7 @@ use mathlib.Core.List.{List}
 use mathlib.Core.Path.{◌≡◌, refl}
 use native.Mathlib.Nat.{le_of_suc-le-suc, mul-le-mul_right, suc-mul}
 use native.Mathlib.Omega.{arith}
-use lib.ListN.{length, take, drop, length-take, length-drop}
+use lib.ListN.{length, length-take, length-drop}
 use borrow.Author.Tests.{lt-ltb, le-ltb}
 use Rattle.floor.specs.Board.{Padded}
 use Rattle.floor.specs.Words.{bit_free, row_of, row_words, free_in, board, IsRow}
@@ -57,11 +57,11 @@ module _ (w h : ℕ) (words : List ℕ) where
 pub row_ends : (y h n : ℕ) → y < h → y * n + n ≤ h * n
 row_ends y h n l = omega (arith, mul-le-mul_right n l, suc-mul y n)
 
--- the part of the words that the code takes for row y
-pub row_part : (w y n : ℕ) (words : List ℕ) → n ≡ row_words w → y * n + n ≤ length words → IsRow w words y (take (y * n + n - y * n) (drop (y * n) words))
-row_part w y n words e l =
-    let d : y * n + n - y * n ≡ n = omega arith in
-    record { same = rw (d, e); long = simp (length-take, length-drop) (omega arith) }
+-- row y of a floor's words is as long as a row
+pub is_row : (w h y : ℕ) (words : List ℕ) → length words ≡ h * row_words w → y < h → IsRow w words y (row_of w words y)
+is_row w h y words s l =
+    let e = row_ends y h (row_words w) l in
+    record { same = refl; long = simp (length-take, length-drop) (omega arith) }
 
 -- a cell of the floor on its board
 pub cell_free : (w h : ℕ) (words : List ℕ) (x y : ℕ) → x < w → y < h → board w h words (suc x) (suc y) ≡ bit_free (row_of w words y) x

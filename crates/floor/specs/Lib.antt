@@ -2,3 +2,6 @@
 pub mod Board
 pub mod Refusals
 pub mod Words
+pub mod Lent
+pub mod Cells
+pub mod Codes

@@ -1,9 +1,17 @@
 // The floor's words, its cells, and the refusals 1 to 3.
 #![tactic(auto)]
 
-ghost use Rattle.std.specs.Prelude.{◌≡◌, ◌*◌, ◌<◌, ◌≤◌, length};
+ghost use Rattle.std.specs.Prelude.{◌≡◌, ◌*◌, ◌<◌, ◌≤◌, length, IfOk};
 ghost use Rattle.floor.specs.Refusals.{FirstOf, Tells};
-ghost use Rattle.floor.specs.Words.{bit_free, free_in, board, row_words, Sized, IsRow, SizeRefused, RestClear, UnusedClear, floor_rows, clear_bits};
+ghost use Rattle.floor.specs.Words.{bit_free, free_in, row_words, SizeRefused, RestClear, UnusedClear, floor_rows, clear_bits};
+ghost use Rattle.floor.specs.Lent.{on, IsLent};
+ghost use Rattle.floor.specs.Codes.{code_of};
+
+mod lent;
+mod refusal;
+
+pub use lent::{Cell, Floor, Grid};
+pub use refusal::Refusal;
 
 // Cell x of a row is free: bit x % 64 of word x / 64 is 0.
 pub fn cell_free(row: &[u64], x: usize) -> bool
@@ -13,7 +21,7 @@ pub fn cell_free(row: &[u64], x: usize) -> bool
     (row[x / 64] >> (x % 64)) % 2 == 0
 }
 
-// How many words a row takes.
+// How many words a row takes. Each mask asks for it: this is an addition and a shift, while `div_ceil` would test the remainder too.
 pub fn row_words(w: usize) -> usize
     requires { w ≤ 255 }
     ensures { result ≡ row_words w }
@@ -26,57 +34,20 @@ pub fn free_in(row: &[u64], w: usize, x: usize) -> bool
     requires { w ≤ 64 * length row.now }
     ensures { result ≡ free_in w row.now x }
 {
-    if x == 0 {
-        return false;
-    }
-    if w < x {
-        return false;
-    }
-    cell_free(row, x - 1)
+    x != 0 && x <= w && cell_free(row, x - 1)
 }
 
-// The words of row y, a part of the floor's words.
-pub fn row_of(words: &[u64], w: usize, h: usize, y: usize) -> &[u64]
-    requires { Sized w h words.now × (y < h) }
-    ensures { IsRow w words.now y result.now }
-{
-    let n = row_words(w);
-    let a = y * n;
-    let e = a + n;
-    &words[a..e]
-}
+// The longest side that a floor may have.
+const MAX_SIDE: usize = 255;
 
-// The place at column x and row y, both padded, is free.
-pub fn free_at(words: &[u64], w: usize, h: usize, x: usize, y: usize) -> bool
-    requires { Sized w h words.now }
-    ensures { result ≡ board w h words.now x y }
-{
-    if y == 0 {
-        return false;
-    }
-    if h < y {
-        return false;
-    }
-    free_in(row_of(words, w, h, y - 1), w, x)
-}
+// The most cells that a floor may have.
+const MAX_CELLS: usize = 16384;
 
 // A side is 0 or above 255, or the cells are more than 16,384.
 pub fn size_refused(w: usize, h: usize) -> bool
     ensures { Tells (SizeRefused w h) result }
 {
-    if w == 0 {
-        return true;
-    }
-    if h == 0 {
-        return true;
-    }
-    if 255 < w {
-        return true;
-    }
-    if 255 < h {
-        return true;
-    }
-    16384 < w * h
+    w == 0 || h == 0 || MAX_SIDE < w || MAX_SIDE < h || MAX_CELLS < w * h
 }
 
 // A bit of a row past its w cells is 0.
@@ -84,44 +55,32 @@ fn rest_clear(row: &[u64], w: usize) -> bool
     requires { length row.now ≤ 4 }
     ensures { Tells (RestClear w row.now) result }
 {
-    let n = 64 * row.len();
-    let mut x = w;
-    while x < n {
-        if cell_free(row, x) {
-            return true;
-        }
-        x += 1;
-    }
-    false
+    (w..64 * row.len()).any(|x| cell_free(row, x))
 }
 
 // An unused bit of the floor is 0.
-fn unused_clear(words: &[u64], w: usize, h: usize) -> bool
-    requires { Sized w h words.now }
-    ensures { Tells (UnusedClear w h words.now) result }
+fn unused_clear(grid: &Grid) -> bool
+    ensures { Tells (on UnusedClear grid.now) result }
 {
-    let mut y = 0;
-    while y < h {
-        if rest_clear(row_of(words, w, h, y), w) {
-            return true;
-        } else {
-            y += 1;
-        }
-    }
-    false
+    (0..grid.h).any(|y| rest_clear(grid.row_of(y), grid.w))
 }
 
-// The number of a floor as it is lent: 0, 1, 2 or 3.
-pub fn check_floor(words: &[u64], w: usize, h: usize) -> u32
-    ensures { FirstOf (floor_rows w h words.now) result }
+// The floor as it is lent, or the first of the refusals 1 to 3 that applies.
+pub fn check_floor(words: &[u64], w: usize, h: usize) -> Result<Floor, Refusal>
+    ensures code { FirstOf (floor_rows w h words.now) (code_of result) }
+    ensures same { IfOk result (λ floor. IsLent w h words.now floor.grid) }
 {
     if size_refused(w, h) {
-        1
-    } else if words.len() == h * row_words(w) {
-        if unused_clear(words, w, h) { 3 } else { 0 }
-    } else {
-        2
+        return Err(Refusal::Size);
     }
+    if words.len() != h * row_words(w) {
+        return Err(Refusal::Words);
+    }
+    let grid = Grid { words, w, h };
+    if unused_clear(&grid) {
+        return Err(Refusal::Unused);
+    }
+    Ok(Floor { grid })
 }
 
 // How many bits of a floor's words are 0. On an accepted floor these are its free cells (the law `free_cells_are`).
@@ -129,11 +88,5 @@ pub fn count_free(words: &[u64]) -> u32
     requires { length words.now ≤ 1020 }
     ensures { result ≡ clear_bits words.now (length words.now) }
 {
-    let mut n: u32 = 0;
-    let mut i = 0;
-    while i < words.len() {
-        n += 64 - u64::count_ones(words[i]);
-        i += 1;
-    }
-    n
+    words.iter().map(|word| word.count_zeros()).sum()
 }

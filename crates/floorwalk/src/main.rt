@@ -5,13 +5,16 @@
 
 ghost use Rattle.std.specs.Prelude.{false, ◌≡◌, ◌+◌, ◌<◌, ◌≤◌, length, IfOk};
 ghost use Rattle.survey.specs.Survey.{lists};
-ghost use Rattle.opening.specs.Grounds.{surveyed, Walkable};
+ghost use Rattle.plan.specs.Lent.{lists_of};
+ghost use Rattle.opening.specs.Grounds.{surveyed_on, Walkable};
 ghost use Rattle.replying.specs.Replies.{Begins, spot_of};
 ghost use Rattle.opening.specs.Openings.{Kept};
 ghost use Rattle.replying.specs.Pieces.{PieceRoom};
 
-use opening::{Opened, Site, open_site};
-use replying::{Spot, fill};
+use floor::{Floor, Grid};
+use opening::{Site, open_site};
+use plan::Plan;
+use replying::{Input, Spot, fill};
 use std::io;
 use std::io::{Read, Stdin, Stdout, Write};
 
@@ -22,39 +25,27 @@ fn flush(to: &mut Stdout, out: &[u8], spot: Spot) -> io::Result<Spot>
 {
     let used = spot.used;
     to.write_all(&out[..used])?;
-    Ok(Spot {
-        at: spot.at,
-        line: spot.line,
-        used: 0,
-        last: spot.last,
-    })
+    Ok(Spot { used: 0, ..spot })
 }
 
 // Writes the output so far and the replies to the lines from a spot on, piece by piece.
 fn write_pieces(
     to: &mut Stdout,
-    text: &[u8],
-    more: bool,
+    input: &Input,
     first: Spot,
-    words: &[u64],
-    w: usize,
-    h: usize,
-    clear: &[u8],
-    corners: &[u16],
-    starts: &[u16],
-    arcs: &[u16],
+    floor: &Floor,
+    plan: &Plan,
     route: &mut [u16],
     work: &mut [u32],
     out: &mut [u8],
 ) -> io::Result<()>
-    requires walkable { Walkable (surveyed w h words.now clear.now corners.now starts.now arcs.now) }
-    requires begins { Begins text.now first × PieceRoom route.old work.old out.old first.used }
+    requires walkable { Walkable (surveyed_on floor.now.grid (lists_of plan.now)) }
+    requires begins { Begins input.now.text.now first × PieceRoom route.old work.old out.old first.used }
 {
     let mut spot = first;
+    // How many lines a piece takes, and so how many pieces there are, is known only by writing them.
     while !spot.last {
-        spot = fill(
-            text, more, spot, words, w, h, clear, corners, starts, arcs, route, work, out,
-        );
+        spot = fill(input, spot, floor, plan, route, work, out);
         spot = flush(to, out, spot)?;
     }
     Ok(())
@@ -73,12 +64,12 @@ fn first_spot(site: Site) -> Spot
     }
 }
 
-// Writes the replies of a surveyed floor, whose line stands in the output already. A route has at most 16,384 cells, and a plan of 2,048
-// turning points takes 6 * 2,050 work entries.
+// Writes the replies of a surveyed floor, whose line stands in the output already. The lists come one by one, as the survey has them, and whole, and are cut
+// to floor and plan here.
+// A route has at most 16,384 cells, and a plan of 2,048 turning points takes 6 * 2,050 work entries.
 fn write_replies(
     to: &mut Stdout,
-    text: &[u8],
-    more: bool,
+    input: &Input,
     site: Site,
     words: &[u64],
     clear: &[u8],
@@ -87,29 +78,31 @@ fn write_replies(
     arcs: &[u16],
     out: &mut [u8],
 ) -> io::Result<()>
-    requires { Kept text.now site words.now (lists clear.now corners.now starts.now arcs.now) out.old }
+    requires { Kept input.now.text.now site words.now (lists clear.now corners.now starts.now arcs.now) out.old }
 {
     let mut route = [0u16; 16384];
     let mut work = [0u32; 12300];
-    let w = site.w;
-    let h = site.h;
+    let Site { w, h, .. } = site;
     let n = h * floor::row_words(w);
-    let bytes = 4 * (w * h);
-    let k = site.corners;
-    let ends = k + 1;
-    let m = site.arcs;
+    let floor = Floor {
+        grid: Grid {
+            words: &words[..n],
+            w,
+            h,
+        },
+    };
+    let plan = Plan {
+        clear: &clear[..4 * (w * h)],
+        corners: &corners[..site.corners],
+        starts: &starts[..site.corners + 1],
+        neighbours: &arcs[..site.arcs],
+    };
     write_pieces(
         to,
-        text,
-        more,
+        input,
         first_spot(site),
-        &words[..n],
-        w,
-        h,
-        &clear[..bytes],
-        &corners[..k],
-        &starts[..ends],
-        &arcs[..m],
+        &floor,
+        &plan,
         &mut route,
         &mut work,
         out,
@@ -117,7 +110,7 @@ fn write_replies(
 }
 
 // Answers a whole text, after which the input goes on or ends. The lists have the largest sizes that a plan may need.
-fn walk(to: &mut Stdout, text: &[u8], more: bool) -> io::Result<()> {
+fn walk(to: &mut Stdout, input: &Input) -> io::Result<()> {
     let mut words = [0u64; 512];
     let mut clear = [0u8; 65536];
     let mut corners = [0u16; 2048];
@@ -125,7 +118,7 @@ fn walk(to: &mut Stdout, text: &[u8], more: bool) -> io::Result<()> {
     let mut arcs = [0u16; 32768];
     let mut out = [0u8; 131072];
     match open_site(
-        text,
+        input.text,
         &mut words,
         &mut clear,
         &mut corners,
@@ -133,9 +126,9 @@ fn walk(to: &mut Stdout, text: &[u8], more: bool) -> io::Result<()> {
         &mut arcs,
         &mut out,
     ) {
-        Opened::Refused(used) => to.write_all(&out[..used]),
-        Opened::Floor(site) => write_replies(
-            to, text, more, site, &words, &clear, &corners, &starts, &arcs, &mut out,
+        Err(refused) => to.write_all(&out[..refused.used]),
+        Ok(site) => write_replies(
+            to, input, site, &words, &clear, &corners, &starts, &arcs, &mut out,
         ),
     }
 }
@@ -145,6 +138,7 @@ fn read_full(from: &mut Stdin, list: &mut [u8]) -> io::Result<usize>
     ensures { IfOk result (λ n. n ≤ length list.new) }
 {
     let mut done = 0;
+    // A read may give fewer bytes than there is room for, and `read_to_end` takes heap.
     while done < list.len() {
         let n = from.read(&mut list[done..])?;
         if n == 0 {
@@ -173,5 +167,11 @@ fn main(rt: HostRuntime) -> io::Result<()> {
     let mut text = [0u8; 65536];
     let n = read_full(&mut from, &mut text)?;
     let more = goes_on(&mut from, n)?;
-    walk(&mut to, &text[..n], more)
+    walk(
+        &mut to,
+        &Input {
+            text: &text[..n],
+            more,
+        },
+    )
 }

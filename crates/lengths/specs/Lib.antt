@@ -3,3 +3,4 @@ pub mod Lengths
 pub mod Fraction
 pub mod Laws
 pub mod Octile
+pub mod Order

@@ -1,5 +1,5 @@
 -- The direct line's first step, and that what follows is the direct line from there. Assumes nothing.
-use Prim.Native.Nat.{ℕ, zero, suc, min, ◌+◌, ◌-◌, ◌<◌, ◌≤◌}
+use Prim.Native.Nat.{ℕ, zero, suc, min, max, ◌+◌, ◌-◌, ◌<◌, ◌≤◌}
 use mathlib.Core.Bool.{Bool, true, cond, ◌||◌}
 use mathlib.Core.List.{List, [], ◌∷◌, ◌++◌}
 use mathlib.Core.Logic.{⊎_elim}
@@ -108,19 +108,12 @@ module _ (x y u v a b : ℕ) (p : a ≡ gap x u) (q : b ≡ gap y v) where
   steps_cells : gap a b + min a b ≡ steps (at x y) (at u v)
   steps_cells = ap (λ (l : Len). l.straight + l.diagonal) (octile_cells x y u v a b p q) ∙ sym (steps_octile (at x y) (at u v))
 
-  -- are the rows between them, where these are more
-  pub steps_tall : a < b → b ≡ steps (at x y) (at u v)
-  steps_tall l = greater a b l ∙ steps_cells
+  -- are the greater of the columns and the rows between them
+  pub steps_greater : max a b ≡ steps (at x y) (at u v)
+  steps_greater = greater a b ∙ steps_cells
     where
-      greater : (a b : ℕ) → a < b → b ≡ gap a b + min a b
-      greater a b l = omega arith
-
-  -- and else the columns
-  pub steps_wide : b ≤ a → a ≡ steps (at x y) (at u v)
-  steps_wide l = greater a b l ∙ steps_cells
-    where
-      greater : (a b : ℕ) → b ≤ a → a ≡ gap a b + min a b
-      greater a b l = omega arith
+      greater : (a b : ℕ) → max a b ≡ gap a b + min a b
+      greater a b = omega arith
 
 -- two numbers whose gap and lesser are not both 0 are not both 0
 some_gap : (a b : ℕ) → 0 < gap a b + min a b → 0 < a + b

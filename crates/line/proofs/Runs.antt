@@ -1,13 +1,16 @@
 -- A direct line judged, and written, step by step. Assumes nothing.
-use Prim.Native.Nat.{ℕ, zero, suc, ◌+◌, ◌*◌, ◌/◌, ◌%◌, ◌<◌, ◌≤◌}
+use Prim.Native.Nat.{ℕ, zero, suc, ◌+◌, ◌-◌, ◌*◌, ◌/◌, ◌%◌, ◌<◌, ◌≤◌}
 use mathlib.Core.Bool.{Bool, true, false}
-use mathlib.Core.List.{List, ◌∷◌, ◌++◌, append_assoc}
+use mathlib.Core.List.{List, ◌∷◌, ◌++◌, append_assoc, append-nil}
 use mathlib.Core.Logic.{⊎_elim}
 use mathlib.Core.Path.{◌≡◌, sym, ◌∙◌, ap, subst}
-use native.Mathlib.Nat.{mul-le-mul_left, mul-le-mul_right, suc-mul, zero-mul, mul_comm, mod-lt, div-lt_iff_lt-mul}
+use native.Mathlib.Nat.{mul-le-mul_right, suc-mul, zero-mul, mul_comm, mod-lt, div-lt_iff_lt-mul}
 use native.Mathlib.Omega.{arith}
-use lib.ListN.{length, take, drop, set, take-append-drop}
-use lib.Seq.{take-suc-set, drop-set-lt}
+use lib.ListN.{length, take, drop, set, length-drop, take-append-drop, drop_of_length-le}
+use lib.Seq.{take-suc-set, drop-set-lt, length-take-le}
+use borrow.Rule.Slice.PartMut.{put_mid}
+use Rattle.std.proofs.lemmas.Slice.{put_mid-paste}
+use Rattle.std.proofs.lemmas.List.Edits.{paste_all}
 use Rattle.floor.specs.Board.{Board, Place, at, Free, Dir, dir_at, go, step}
 use Rattle.floor.specs.Words.{cell_of}
 use Rattle.ground.specs.Kind.{walkers}
@@ -15,17 +18,13 @@ use Rattle.ground.specs.Walk.{Legal}
 use Rattle.ground.specs.Line.{diagonal_way, line}
 use Rattle.ground.proofs.Logic.{not_both, and_left}
 use Rattle.ground.proofs.Walks.{place_eq}
-use Rattle.line.specs.Cells.{after, steps, Nearer, Cell}
+use Rattle.line.specs.Cells.{after, steps, Nearer, Cell, LineWritten}
 use Rattle.line.proofs.Firsts.{nearer, first_there, line_first, line_none, steps_first}
 
 -- ---- the cells of a floor
 -- one step nearer stays below what both numbers are below
 pub nearer_below : {x u a : ℕ} (w : ℕ) → Nearer x u a → x < w → u < w → a < w
 nearer_below w p l m = ⊎_elim (λ k. omega arith) (λ k. omega arith) p.between
-
--- a cell's row is below 16,384
-pub cell_row : {w x y : ℕ} → Cell w x y → y < 16384
-cell_row {w} {x} {y} l = let a = l.column in let b = l.rows in let c : y * 1 ≤ y * w = mul-le-mul_left y (omega arith) in omega arith
 
 -- one step nearer to a cell is a cell
 pub nearer_cell : {w x y u v a b : ℕ} → Nearer x u a → Nearer y v b → Cell w x y → Cell w u v → Cell w a b
@@ -60,10 +59,6 @@ pub record Rest (B : Board) (s t p : Place) : Type 0 where
   pub part : Legal walkers B s (line s t) → Legal walkers B p (line p t)
 
 module _ (B : Board) (s t : Place) where
-  -- at first the rest is the whole
-  pub rest_start : Free B s → Rest B s t s
-  rest_start f = record { free = f; whole = λ l. l; part = λ l. l }
-
   -- where no step is left the line is legal
   pub rest_none : (p : Place) → Rest B s t p → steps p t ≡ 0 → Legal walkers B s (line s t)
   rest_none p r e = r.whole (rw (line_none p t e) r.free)
@@ -111,6 +106,45 @@ module _ (w : ℕ) (t p : Place) (l : List ℕ) where
     where
       cells : after w p (line p t) ≡ cell_of w (nearer p t) ∷ after w (nearer p t) (line (nearer p t) t)
       cells = ap (after w p) (line_first p t some) ∙ ap (λ (q : Place). cell_of w q ∷ after w q (line (nearer p t) t)) (first_there p t some)
+
+-- the part of a list that is written has n entries
+pub part_long : (l : List ℕ) (first n : ℕ) → first + n ≤ length l → length (take (first + n - first) (drop first l)) ≡ n
+part_long l first n room =
+    let count : first + n - first ≡ n = omega arith in
+    rw count (length-take-le n (drop first l) (rw length-drop (omega arith)))
+
+-- The entries that the code writes, seen as a part of the list: once no step is left, they are the cells of the line from s.
+pub line_put : (w : ℕ) (s t p : Place) (l items : List ℕ) (first n i : ℕ) → n ≡ steps s t → first + n ≤ length l →
+    length items ≡ length (take (first + n - first) (drop first l)) → i + steps p t ≡ n → length (take (first + n - first) (drop first l)) ≤ i →
+    filled w t p items i n ≡ filled w t s (take (first + n - first) (drop first l)) 0 n →
+    LineWritten w s t l first (first + n) (put_mid first (first + n - first) l items)
+line_put w s t p l items first n i e room same left ended f =
+    record {
+      next = ap (λ (m : ℕ). first + m) e;
+      cells =
+          put_mid-paste first (first + n - first) l items cells n all (sym count) many
+          ∙ paste_all l first cells n many
+          ∙ ap (λ (m : ℕ). take first l ++ (cells ++ drop (first + m) l)) e;
+    }
+  where
+    cells : List ℕ
+    cells = after w s (line s t)
+
+    count : first + n - first ≡ n
+    count = omega arith
+
+    long : length (take (first + n - first) (drop first l)) ≡ n
+    long = part_long l first n room
+
+    all : items ≡ cells
+    all =
+        sym (filled_none w t p items n (let a = long in omega arith))
+        ∙ ap (λ (j : ℕ). filled w t p items j n) (let a = long in let d : n ≡ i = omega arith in d) ∙ f
+        ∙ ap (λ (xs : List ℕ). cells ++ xs) (drop_of_length-le (take (first + n - first) (drop first l)) {i = n} (let a = long in omega arith))
+        ∙ append-nil cells
+
+    many : n ≡ length cells
+    many = sym (ap length (sym all) ∙ same ∙ long)
 
 -- ---- as the code steps, from cell (x, y) to cell (a, b)
 module _ {x y u v a b : ℕ} (p : Nearer x u a) (q : Nearer y v b) (some : 0 < steps (at x y) (at u v)) where

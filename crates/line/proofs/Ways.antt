@@ -56,18 +56,6 @@ module _ (m n : ℕ) where
 
 -- ---- as the code takes it
 module _ (a b : ℕ) where
-  -- the code of the way to a larger number
-  pub side_more : a < b → 2 ≡ shift (toward (suc a) (suc b)) 1
-  side_more l = rw (toward_more {m = suc a} {n = suc b} (omega arith))
-
-  -- to a smaller one
-  pub side_less : b < a → 0 ≡ shift (toward (suc a) (suc b)) 1
-  side_less l = rw (toward_less {m = suc a} {n = suc b} (omega arith))
-
-  -- and to the same
-  pub side_same : b ≤ a → a ≤ b → 1 ≡ shift (toward (suc a) (suc b)) 1
-  side_same l m = rw (toward_same {m = suc a} {n = suc b} (omega arith))
-
   -- a number and the code of the way to b are no less than one
   pub side_fits : 1 ≤ a + shift (toward (suc a) (suc b)) 1
   side_fits =

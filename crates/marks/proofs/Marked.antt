@@ -1,23 +1,29 @@
 -- A pass over the cells writes the entries of one direction, one entry at a time. Assumes nothing.
 use Prim.Native.Nat.{ℕ, suc, ◌+◌, ◌*◌, ◌/◌, ◌≤◌, ◌<◌}
-use mathlib.Core.Bool.{Bool, true}
+use mathlib.Core.Bool.{Bool, true, false}
 use mathlib.Core.List.{List}
 use mathlib.Core.Logic.{◌≢◌}
-use mathlib.Core.Path.{◌≡◌, refl, sym, ap, ap₂, subst, ◌∙◌}
+use mathlib.Core.Path.{◌≡◌, sym, ap, ap₂, subst, ◌∙◌}
 use native.Mathlib.Decide.{ℕ_discrete}
-use native.Mathlib.Nat.{suc-mul}
+use native.Mathlib.Nat.{suc-mul, zero-add}
 use native.Mathlib.Omega.{arith}
 use lib.ListN.{length, get_or, set, length-set}
 use lib.Seq.{get_or-set_same, get_or-set_other}
+use Rattle.std.specs.Bool.{MatchBool}
+use Rattle.std.specs.List.{range_with_len, AllWithin, HoldsAt}
+use Rattle.std.proofs.lemmas.List.FromFn.{length-range_with_len, get_or-range_with_len}
+use Rattle.floor.specs.Refusals.{Tells}
+use Rattle.floor.proofs.Tables.{found, missing}
 use Rattle.floor.specs.Board.{Free, dir_at, go}
 use Rattle.floor.specs.Words.{board, place_of, Floor}
-use Rattle.masks.specs.Masks.{bit_set}
 use Rattle.floor.proofs.Below.{below}
 use Rattle.ground.proofs.Logic.{and_right}
 use Rattle.ground.proofs.Cells.{column_inside, row_inside}
 use Rattle.marks.specs.Marks.{ClearanceAt, ClearedAt}
-use Rattle.corners.specs.Chunks.{Chunk, RowBits}
-use Rattle.marks.specs.Marking.{steps_to, turns_to, by_bits, by_next, NextIn, rank, Right, Marking, MarkedAll}
+use Rattle.corners.specs.Chunks.{Chunk}
+use Rattle.marks.specs.declared.Step.{Step}
+use Rattle.marks.specs.declared.Steps.{Steps}
+use Rattle.marks.specs.Marking.{steps_to, turns_to, by_bits, by_next, NextIn, AreSteps, IsStep, rank, Marking, MarkedAll}
 use Rattle.ground.proofs.Numbers.{number_of_cell, within, free_cell}
 use Rattle.marks.proofs.Recurrence.{clearance_small}
 use Rattle.corners.proofs.Chunks.{chunk_ends, row_told}
@@ -60,30 +66,6 @@ module _ (w h : ℕ) (words : List ℕ) where
       ) d l
 
 module _ {w h : ℕ} {words : List ℕ} where
-  -- at first nothing is marked
-  pub none_marked : (d : ℕ) (entry : List ℕ) → Marking w h words d 0 entry entry
-  none_marked d entry =
-      record {
-        as_long = refl;
-        right = record { each = λ c m k. absurd (omega arith) };
-        others = λ c f m l p. refl;
-        beyond = λ i l. refl;
-      }
-
-  -- so far, from where nothing has changed
-  pub so_marked : {d r : ℕ} {entry : List ℕ} → Right w h words entry d r → Marking w h words d r entry entry
-  so_marked s = record { as_long = refl; right = s; others = λ c f m l p. refl; beyond = λ i l. refl }
-
-  -- one part of a pass after another
-  pub marked_on : {d r s : ℕ} {entry between now : List ℕ} → Marking w h words d r entry between → Marking w h words d s between now → Marking w h words d s entry now
-  marked_on a b =
-      record {
-        as_long = b.as_long ∙ a.as_long;
-        right = b.right;
-        others = λ c f m l p. b.others c f m l p ∙ a.others c f m l p;
-        beyond = λ i l. b.beyond i l ∙ a.beyond i l;
-      }
-
   module _ {d r : ℕ} {entry now : List ℕ} (i : Marking w h words d r entry now) (c : ℕ) (k : c < w * h) (here : rank (w * h) d c ≡ r) (l : d < 4) where
     -- what the next entry makes of this one is right
     right_here : ClearanceAt (board w h words) (dir_at d) (place_of w c) (by_next (board w h words) w now (place_of w c) d)
@@ -143,24 +125,34 @@ module _ {w h : ℕ} {words : List ℕ} where
         beyond = λ i l. q.beyond i l ∙ p.beyond i l ∙ o.beyond i l ∙ n.beyond i l;
       }
 
--- ---- two bits of a chunk's masks, those of cell c + i
-module _ (w h : ℕ) (words : List ℕ) (d c n : ℕ) (k : Chunk w h c n) (steps turns : ℕ)
-    (s : RowBits w (λ m. steps_to (board w h words) (place_of w m) d) c steps) (t : RowBits w (λ m. turns_to (board w h words) (place_of w m) d) c turns)
-    (a b : Bool) (i : ℕ) (l : i < n) (p : a ≡ bit_set steps i) (q : b ≡ bit_set turns i) where
-  -- there is a step
-  step_told : a ≡ steps_to (board w h words) (place_of w (c + i)) d
-  step_told = row_told k (λ m. steps_to (board w h words) (place_of w m) d) steps s a i l p
+-- ---- a test of the numbers below n
+-- that all pass tells that P holds of all
+pub tells_all : (n : ℕ) (P : ℕ → Type 0) (r : Bool) →
+    let all = range_with_len 0 n in
+    MatchBool r (AllWithin P all 0 (length all)) ((k : ℕ) × (k < length all) × HoldsAt (λ x. ¬ (P x)) all k) → Tells ((k : ℕ) → k < n → P k) r
+tells_all n P true m =
+    found (λ k l. subst P (get_or-range_with_len 0 n k 0 l ∙ zero-add k) (m k 0 (omega arith) (rw length-range_with_len l)))
+tells_all n P false m =
+    let l : m.0 < n = rw length-range_with_len at m.1 in
+    missing (λ a. subst (λ x. ¬ (P x)) (get_or-range_with_len 0 n m.0 0 l ∙ zero-add m.0) (m.2 0) (a m.0 l))
+
+-- ---- one step of a chunk's, that from cell c + i
+module _ {w h : ℕ} {words : List ℕ} {d c n : ℕ} (k : Chunk w h c n) {s : Steps} (are : AreSteps w h words d c s)
+    {t : Step} {i : ℕ} (l : i < n) (is : IsStep s i t) where
+  -- it is legal
+  step_told : t.legal ≡ steps_to (board w h words) (place_of w (c + i)) d
+  step_told = row_told k (λ m. steps_to (board w h words) (place_of w m) d) s.legal are.legal t.legal i l is.legal
 
   -- it leads to a turning point
-  turn_told : b ≡ turns_to (board w h words) (place_of w (c + i)) d
-  turn_told = row_told k (λ m. turns_to (board w h words) (place_of w m) d) turns t b i l q
+  turn_told : t.turns ≡ turns_to (board w h words) (place_of w (c + i)) d
+  turn_told = row_told k (λ m. turns_to (board w h words) (place_of w m) d) s.turns are.turns t.turns i l is.turns
 
-  -- what they make of the next entry
-  pub bits_next : (clear : List ℕ) → by_bits a b w clear (place_of w (c + i)) d ≡ by_next (board w h words) w clear (place_of w (c + i)) d
+  -- what it makes of the next entry
+  pub bits_next : (clear : List ℕ) → by_bits t.legal t.turns w clear (place_of w (c + i)) d ≡ by_next (board w h words) w clear (place_of w (c + i)) d
   bits_next clear = ap₂ (λ x y. by_bits x y w clear (place_of w (c + i)) d) step_told turn_told
 
-  -- where there is a step, the next cell has an entry
-  pub bits_in : (size : ℕ) → 4 * (w * h) ≤ size → d < 4 → a ≡ true → NextIn w size (c + i) d
+  -- where it is legal, the next cell has an entry
+  pub bits_in : (size : ℕ) → 4 * (w * h) ≤ size → d < 4 → t.legal ≡ true → NextIn w size (c + i) d
   bits_in size long m e =
       next_in w h words size (c + i) d long m (and_right (board w h words (place_of w (c + i)).x (place_of w (c + i)).y) _ (sym step_told ∙ e))
 
@@ -168,19 +160,19 @@ module _ (w h : ℕ) (words : List ℕ) (d c n : ℕ) (k : Chunk w h c n) (steps
   pub bits_inside : c + i < w * h
   bits_inside = omega (arith, chunk_ends k)
 
-  module _ {r : ℕ} {entry now : List ℕ} (o : Marking w h words d r entry now) (here : rank (w * h) d (c + i) ≡ r) (m : d < 4) (long : 4 * (w * h) ≤ length entry) where
-    -- all that writing the entry takes
-    pub bits_ready : Floor w h words →
-        ((c + i < 16384) × ((w < 256) × (4 * (c + i) + d < length now)))
-        × ((a ≡ true → NextIn w (length now) (c + i) d) × (by_bits a b w now (place_of w (c + i)) d ≤ 255))
-    bits_ready f =
-        let x = bits_inside in
-        let e = o.as_long in (
-          (omega (arith, f.few_cells), (omega (arith, f.sized.wide), omega arith)),
-          (bits_in (length now) (omega arith) m, rw (bits_next now) (mark_small o (c + i) x here m f)),
-        )
+  -- with an entry
+  pub bits_ready : Floor w h words → (size : ℕ) → 4 * (w * h) ≤ size → d < 4 → (c + i < 16384) × ((w < 256) × (4 * (c + i) + d < size))
+  bits_ready f size long m =
+      let x = bits_inside in
+      (omega (arith, f.few_cells), (omega (arith, f.sized.wide), omega arith))
+
+  module _ {r : ℕ} {entry now : List ℕ} (o : Marking w h words d r entry now) (here : rank (w * h) d (c + i) ≡ r) (m : d < 4) where
+    -- what is written fits a byte
+    pub bits_small : Floor w h words → by_bits t.legal t.turns w now (place_of w (c + i)) d ≤ 255
+    bits_small f = rw (bits_next now) (mark_small o (c + i) bits_inside here m f)
 
     -- one entry more is marked
-    pub bits_marked : (next : List ℕ) → next ≡ set now (4 * (c + i) + d) (by_bits a b w now (place_of w (c + i)) d) →
+    pub bits_marked : 4 * (w * h) ≤ length entry →
+        (next : List ℕ) → next ≡ set now (4 * (c + i) + d) (by_bits t.legal t.turns w now (place_of w (c + i)) d) →
         (r' : ℕ) → r' ≡ suc r → Marking w h words d r' entry next
-    bits_marked next e = mark_more o (c + i) bits_inside here m long next (e ∙ ap (set now (4 * (c + i) + d)) (bits_next now))
+    bits_marked long next e = mark_more o (c + i) bits_inside here m long next (e ∙ ap (set now (4 * (c + i) + d)) (bits_next now))

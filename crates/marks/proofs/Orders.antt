@@ -8,14 +8,15 @@ use native.Mathlib.Decide.{dec_le}
 use native.Mathlib.Nat.{suc-mul}
 use native.Mathlib.Numerals.{one-add}
 use native.Mathlib.Omega.{arith}
-use lib.Dec.{eqb}
 use lib.ListN.{get_or}
 use Rattle.floor.specs.Board.{Place, at, Free, dir_at, go}
 use Rattle.floor.specs.Words.{board, number_of, place_of, cell_of}
 use Rattle.floor.proofs.Below.{below}
 use Rattle.ground.proofs.Cells.{column_inside, row_inside}
+use Rattle.corners.specs.Chunks.{Chunk}
+use Rattle.corners.proofs.Chunks.{chunk_ends}
 use Rattle.marks.specs.Marks.{ClearanceAt, Cleared}
-use Rattle.marks.specs.Marking.{by_bits, by_next, ahead_of, back_of, NextIn, rank, Right, Agrees, ChunkAgrees, WayAgrees}
+use Rattle.marks.specs.Marking.{by_bits, by_next, ahead_of, back_of, NextIn, rank, first_met, FromFirst, Right, Agrees, ChunkAgrees, WayAgrees}
 use Rattle.ground.proofs.Numbers.{number_of_cell, column_in, row_in, within, free_cell, place_of_free}
 use Rattle.marks.proofs.Recurrence.{one_clearance, by_next_lem}
 
@@ -28,46 +29,31 @@ pub rank_tells : (n d c k : ℕ) → d < 4 → c < n → k < n → rank n d c �
 rank_tells n d c k l m o =
     below (λ d. rank n d c ≡ rank n d k → c ≡ k) 4 (λ e. e, (λ (e : n - suc c ≡ n - suc k). omega arith, (λ (e : n - suc c ≡ n - suc k). omega arith, (λ e. e, tt)))) d l
 
+-- north and west meet a chunk's first cell first
+pub first_in_turn : (n d c m : ℕ) → d < 4 → FromFirst d → first_met n d c m ≡ c
+first_in_turn n d c m l =
+    below (λ d. FromFirst d → first_met n d c m ≡ c) 4 ((λ e. omega arith), ((λ e. absurd (omega arith)), ((λ e. absurd (omega arith)), ((λ e. omega arith), tt)))) d l
+
+-- a chunk's cells are met one after another
+pub in_turn : {w h d c m : ℕ} → Chunk w h c m → d < 4 → (k : ℕ) → k < m → rank (w * h) d (c + rank m d k) ≡ first_met (w * h) d c m + k
+in_turn {w} {h} {d} {c} {m} chunk l k o =
+    let e = chunk_ends chunk in
+    below (λ d. rank (w * h) d (c + rank m d k) ≡ first_met (w * h) d c m + k) 4 (omega arith, (omega arith, (omega arith, (omega arith, tt)))) d l
+
 -- the row above
 pub row_above : (w y : ℕ) → 0 < y → y * w ≡ pred y * w + w
 row_above w zero l = absurd (omega arith)
 row_above w (suc y) l = suc-mul y w
 
--- a number or 0 is no more than the number
-pub cond_few : (b : Bool) (x : ℕ) → cond b x 0 ≤ x
-cond_few true x = omega arith
-cond_few false x = omega arith
-
--- the next cell's number is not far ahead
-pub ahead_few : (w d : ℕ) → ahead_of w d ≤ suc w
-ahead_few w d = by (eqb d 1) (eqb d 2)
-  where
-    by : (a b : Bool) → cond a 1 (cond b w 0) ≤ suc w
-    by true b = omega arith
-    by false true = omega arith
-    by false false = omega arith
-
--- ---- the cell whose entry is read: the next one where there is a step, else the cell itself
-module _ (w size c d : ℕ) (own : 4 * c + d < size) where
-  -- it has a number
-  pub read_back : (s : Bool) → (s ≡ true → NextIn w size c d) → cond s (back_of w d) 0 ≤ c + cond s (ahead_of w d) 0
-  read_back true n = omega (arith, (n refl).number)
-  read_back false n = omega arith
-
-  -- and an entry
-  pub read_in : (s : Bool) → (s ≡ true → NextIn w size c d) → 4 * (c + cond s (ahead_of w d) 0 - cond s (back_of w d) 0) + d < size
-  read_in true n = omega (arith, (n refl).number, (n refl).entry_in)
-  read_in false n = omega arith
-
-  -- of which the clearance is made
-  pub read_made : (clear : List ℕ) (s t : Bool) → (s ≡ true → NextIn w size c d) →
-      cond s (1 + cond (not t) (get_or clear (4 * (c + cond s (ahead_of w d) 0 - cond s (back_of w d) 0) + d) 0) 0) 0 ≡ by_bits s t w clear (place_of w c) d
-  unfolding by_bits
-  read_made clear true true n = refl
-  read_made clear true false n =
-      let e : c + ahead_of w d - back_of w d ≡ cell_of w (go (dir_at d) (place_of w c)) = omega (arith, (n refl).number) in
-      ap (λ m. 1 + get_or clear (4 * m + d) 0) e ∙ one-add _
-  read_made clear false t n = refl
+-- the clearance is made of the next cell's entry where there is a step, else the cell's own is read
+pub read_made : (w size c d : ℕ) (clear : List ℕ) (s t : Bool) → (s ≡ true → NextIn w size c d) →
+    cond s (1 + cond (not t) (get_or clear (4 * (c + cond s (ahead_of w d) 0 - cond s (back_of w d) 0) + d) 0) 0) 0 ≡ by_bits s t w clear (place_of w c) d
+unfolding by_bits
+read_made w size c d clear true true n = refl
+read_made w size c d clear true false n =
+    let e : c + ahead_of w d - back_of w d ≡ cell_of w (go (dir_at d) (place_of w c)) = omega (arith, (n refl).number) in
+    ap (λ m. 1 + get_or clear (4 * m + d) 0) e ∙ one-add _
+read_made w size c d clear false t n = refl
 
 module _ (w h : ℕ) (words : List ℕ) where
   -- the next cell in a direction is met before

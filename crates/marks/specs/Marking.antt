@@ -1,8 +1,13 @@
 -- What marking computes cell by cell. These are values and states of code; proofs/ ties them to the plan's definitions.
-use Rattle.std.specs.Prelude.{ℕ, suc, ◌+◌, ◌-◌, ◌*◌, ◌≤◌, ◌<◌, Bool, cond, ◌&&◌, List, [], ◌∷◌, ◌≢◌, ◌≡◌, eqb, length, get_or}
+use Rattle.std.specs.Prelude.{ℕ, suc, ◌+◌, ◌-◌, ◌*◌, ◌%◌, ◌≤◌, ◌<◌, Bool, cond, ◌&&◌, List, [], ◌∷◌, ◌≢◌, ◌≡◌, eqb, length, get_or}
 use Rattle.floor.specs.Board.{Board, Place, dir_at, go, corner}
 use Rattle.floor.specs.Words.{board, place_of, cell_of}
+use Rattle.masks.specs.Masks.{bit_set}
+use Rattle.corners.specs.Chunks.{Chunk as IsChunk, RowBits}
 use Rattle.marks.specs.Marks.{ClearedAt, Cleared}
+use Rattle.marks.specs.declared.Chunk.{Chunk}
+use Rattle.marks.specs.declared.Step.{Step}
+use Rattle.marks.specs.declared.Steps.{Steps}
 
 -- entry 4 c + d of the clearances, for the cell at a place
 abbrev pub entry_at : ℕ → List ℕ → Place → ℕ → ℕ
@@ -33,6 +38,16 @@ ahead_of w d = cond (eqb d 1) 1 (cond (eqb d 2) w 0)
 abbrev pub back_of : ℕ → ℕ → ℕ
 back_of w d = cond (eqb d 0) w (cond (eqb d 3) 1 0)
 
+-- the masks are those of the steps in direction d from the cells of a chunk that begins with cell c
+pub record AreSteps (w h : ℕ) (words : List ℕ) (d c : ℕ) (s : Steps) : Type 0 where
+  pub legal : RowBits w (λ k. steps_to (board w h words) (place_of w k) d) c s.legal
+  pub turns : RowBits w (λ k. turns_to (board w h words) (place_of w k) d) c s.turns
+
+-- of which one is told
+pub record IsStep (s : Steps) (i : ℕ) (t : Step) : Type 0 where
+  pub legal : t.legal ≡ bit_set s.legal i
+  pub turns : t.turns ≡ bit_set s.turns i
+
 -- the next place of cell c in direction d is that of a cell, which has its entry in a list
 pub record NextIn (w size c d : ℕ) : Type 0 where
   pub number : cell_of w (go (dir_at d) (place_of w c)) + back_of w d ≡ c + ahead_of w d
@@ -43,13 +58,21 @@ pub record NextIn (w size c d : ℕ) : Type 0 where
 abbrev pub rank : ℕ → ℕ → ℕ → ℕ
 rank n d c = get_or (c ∷ (n - suc c) ∷ (n - suc c) ∷ c ∷ []) d 0
 
--- a direction's cells are met from the first on
-abbrev pub Upward : ℕ → ℕ → Type 0
-Upward n d = (c : ℕ) → rank n d c ≡ c
+-- how many of n cells are met before those of a chunk, the m cells from cell c on
+abbrev pub first_met : ℕ → ℕ → ℕ → ℕ → ℕ
+first_met n d c m = rank n d (c + rank m d 0)
 
--- or from the last
-abbrev pub Downward : ℕ → ℕ → Type 0
-Downward n d = (c : ℕ) → rank n d c ≡ n - suc c
+-- the pass in direction d goes from the first cell on: it is that for N, 0, or W, 3
+abbrev pub FromFirst : ℕ → Type 0
+FromFirst d = d % 3 ≡ 0
+
+-- a chunk is met after the first r cells
+pub record Met (w h d r : ℕ) (k : Chunk) : Type 0 where
+  pub chunk : IsChunk w h k.cell k.count
+  pub some : 0 < k.count
+  pub fits : r + k.count ≤ w * h
+  pub first : first_met (w * h) d k.cell k.count ≡ r
+  pub whole : FromFirst d → (r + k.count) % w % 64 ≡ 0
 
 -- the cells that are met before the r-th have right entries
 pub record Right (w h : ℕ) (words clear : List ℕ) (d r : ℕ) : Type 0 where

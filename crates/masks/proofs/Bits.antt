@@ -1,13 +1,13 @@
 -- The bits of a word: of words joined bit by bit, of a word with each bit the other way, and of one moved up or down by one; and words that are masks.
 -- Assumes nothing.
 use Prim.Native.Nat.{ℕ, zero, suc, ◌+◌, ◌-◌, ◌*◌, ◌/◌, ◌%◌, ◌^◌, ◌<◌}
-use mathlib.Core.Bool.{Bool, false, not, ◌&&◌, ◌||◌}
-use mathlib.Core.Path.{◌≡◌, refl, sym, ap, ◌∙◌}
-use native.Mathlib.Nat.{div-one, div-div-eq-div-mul, pow-suc, mul_comm, add_comm, mod-lt, zero-lt-suc}
+use mathlib.Core.Bool.{Bool, false, not, ◌&&◌, ◌||◌, or-false}
+use mathlib.Core.Path.{◌≡◌, refl, sym, ap, ap₂, ◌∙◌}
+use native.Mathlib.Nat.{div-one, div-div-eq-div-mul, pow-suc, mul_comm, zero-mul, add-zero, mod-lt, zero-lt-suc}
 use native.Mathlib.Numerals.{add-one, one-add}
 use native.Mathlib.Decide.{ℕ_discrete}
 use native.Mathlib.Omega.{arith}
-use lib.Arith.{lt-one, digits_lt}
+use lib.Arith.{lt-one}
 use lib.Bits.{bit_and, bit_or, and_shr, or_shr, and_mod, or_mod, block_half, block_odd}
 use lib.Count.{ones, ones_step, ones-ones}
 use lib.Dec.{eqb}
@@ -78,36 +78,51 @@ low_bit (suc k) hi lo (suc i) l =
 pub high_bit : (k hi lo i : ℕ) → lo < 2 ^ k → bit_set (hi * 2 ^ k + lo) (k + i) ≡ bit_set hi i
 high_bit k hi lo i h = ap (λ n. eqb (n % 2) 1) (sym (shr-shr (hi * 2 ^ k + lo) k i) ∙ ap (λ n. n / 2 ^ i) (high hi k h))
 
--- a word moved down by one is a word
-pub next_fits : (a b : ℕ) → a < 2 ^ 64 → a / 2 + b % 2 * 2 ^ 63 < 2 ^ 64
-next_fits a b h = rw add_comm (digits_lt (mod-lt b (zero-lt-suc 1)) (shr_lt 63 1 h))
+-- from bit k on no bit of a number of k digits is 1
+above_bit : (k n i : ℕ) → n < 2 ^ k → bit_set n (k + i) ≡ false
+above_bit k n i h =
+    let e : 0 * 2 ^ k + n ≡ n = omega (arith, zero-mul (2 ^ k)) in
+    ap (λ m. bit_set m (k + i)) (sym e) ∙ high_bit k 0 n i h ∙ zero_bit i
 
--- a word moved up by one is a word
-pub last_fits : (a b : ℕ) → b < 2 ^ 64 → a % 2 ^ 63 * 2 + b / 2 ^ 63 < 2 ^ 64
-last_fits a b h = digits_lt (mod-lt a (pow_pos 63)) (shr_lt 1 63 h)
+-- nor is one of the k low bits of a number moved up by k
+under_bit : (k n i : ℕ) → i < k → bit_set (n * 2 ^ k) i ≡ false
+under_bit k n i l = ap (λ m. bit_set m i) (sym (add-zero (n * 2 ^ k))) ∙ low_bit k n 0 i l ∙ zero_bit i
+
+-- the others are its own
+over_bit : (k n i : ℕ) → bit_set (n * 2 ^ k) (k + i) ≡ bit_set n i
+over_bit k n i = ap (λ m. bit_set m (k + i)) (sym (add-zero (n * 2 ^ k))) ∙ high_bit k n 0 i (pow_pos k)
+
+-- the bits that a word keeps are those of the number
+kept_bit : (k n i : ℕ) → i < k → bit_set (n % 2 ^ k) i ≡ bit_set n i
+kept_bit k n i l = sym (low_bit k (n / 2 ^ k) (n % 2 ^ k) i l) ∙ ap (λ m. bit_set m i) (split n k)
 
 -- the word of 64 places, and of the next one after each
-pub next_mask : (a b : ℕ) → a < 2 ^ 64 → Next a b (a / 2 + b % 2 * 2 ^ 63)
-next_mask a b h f ma mb i l = ap (λ n. bit_set n i) (add_comm (a / 2) (b % 2 * 2 ^ 63)) ∙ by (ℕ_discrete i 63)
+pub next_mask : (a b : ℕ) → a < 2 ^ 64 → Next a b (bit_or (a / 2) (b * 2 ^ 63 % 2 ^ 64))
+next_mask a b h f ma mb i l = or_bit (a / 2) (b * 2 ^ 63 % 2 ^ 64) i ∙ by (ℕ_discrete i 63)
   where
-    top : bit_set (b % 2) 0 ≡ bit_set b 0
-    top =
-        let e : b % 2 % 2 ≡ b % 2 = omega arith in
-        rw (div-one (b % 2), div-one b, e)
-
-    by : Dec (i ≡ 63) → bit_set (b % 2 * 2 ^ 63 + a / 2) i ≡ f (suc i)
-    by (yes e) = rw e (high_bit 63 (b % 2) (a / 2) 0 (shr_lt 63 1 h) ∙ top ∙ mb 0 (omega arith))
-    by (no n) = low_bit 63 (b % 2) (a / 2) i (omega arith) ∙ sym (half_bit a i) ∙ ma (suc i) (omega arith)
+    by : Dec (i ≡ 63) → (bit_set (a / 2) i || bit_set (b * 2 ^ 63 % 2 ^ 64) i) ≡ f (suc i)
+    by (yes e) =
+        ap₂ ◌||◌
+        (ap (bit_set (a / 2)) e ∙ above_bit 63 (a / 2) 0 (shr_lt 63 1 h))
+        (ap (bit_set (b * 2 ^ 63 % 2 ^ 64)) e ∙ kept_bit 64 (b * 2 ^ 63) 63 (omega arith) ∙ over_bit 63 b 0 ∙ mb 0 (omega arith))
+        ∙ ap f (omega arith)
+    by (no n) =
+        ap₂ ◌||◌
+        (sym (half_bit a i) ∙ ma (suc i) (omega arith))
+        (kept_bit 64 (b * 2 ^ 63) i l ∙ under_bit 63 b i (omega arith))
+        ∙ or-false (f (suc i))
 
 -- the word of 64 places, and of the one before each
-pub last_mask : (a b : ℕ) → b < 2 ^ 64 → Last a b (a % 2 ^ 63 * 2 + b / 2 ^ 63)
-last_mask a b h f ma mb zero l = low_bit 1 (a % 2 ^ 63) (b / 2 ^ 63) 0 (omega arith) ∙ rw div-one (mb 63 (omega arith))
+pub last_mask : (a b : ℕ) → b < 2 ^ 64 → Last a b (bit_or (a * 2 ^ 1 % 2 ^ 64) (b / 2 ^ 63))
+last_mask a b h f ma mb zero l =
+    or_bit (a * 2 ^ 1 % 2 ^ 64) (b / 2 ^ 63) 0
+    ∙ ap₂ ◌||◌ (kept_bit 64 (a * 2 ^ 1) 0 l ∙ under_bit 1 a 0 (omega arith)) (rw div-one (mb 63 (omega arith)))
 last_mask a b h f ma mb (suc i) l =
-    ap (bit_set (a % 2 ^ 63 * 2 + b / 2 ^ 63)) (sym (one-add i))
-    ∙ high_bit 1 (a % 2 ^ 63) (b / 2 ^ 63) i (shr_lt 1 63 h)
-    ∙ sym (low_bit 63 (a / 2 ^ 63) (a % 2 ^ 63) i (omega arith))
-    ∙ ap (λ n. bit_set n i) (split a 63)
-    ∙ ma i (omega arith)
+    or_bit (a * 2 ^ 1 % 2 ^ 64) (b / 2 ^ 63) (suc i)
+    ∙ ap₂ ◌||◌
+    (kept_bit 64 (a * 2 ^ 1) (suc i) l ∙ ap (bit_set (a * 2 ^ 1)) (sym (one-add i)) ∙ over_bit 1 a i ∙ ma i (omega arith))
+    (ap (bit_set (b / 2 ^ 63)) (sym (one-add i)) ∙ above_bit 1 (b / 2 ^ 63) i (shr_lt 1 63 h))
+    ∙ or-false (f (64 + i))
     ∙ ap f (omega arith)
 
 -- 0 is the mask of what no place has

@@ -9,8 +9,8 @@ use native.Mathlib.Omega.{arith}
 use lib.Bits.{bit_and, bit_or}
 use lib.ListN.{get_or}
 use borrow.Author.Tests.{lt-ltb, le-ltb}
-use Rattle.floor.specs.Board.{Board, Place, corner, nook, dir_at, go}
-use Rattle.masks.specs.Masks.{bit_set, Mask, Next, Last, nook_test, spot}
+use Rattle.floor.specs.Board.{Board, corner, nook}
+use Rattle.masks.specs.Masks.{bit_set, Mask, Next, Last, nook_test}
 use Rattle.floor.specs.Words.{bit_clear, bit_free, row_words, row_of, free_in, board, IsRow, Floor}
 use Rattle.masks.proofs.Bits.{none_mask, and_bit, or_bit}
 use Rattle.floor.proofs.FreeCells.{row_used}
@@ -99,26 +99,3 @@ pub corner_bit : (B : Board) (x y m n s i : ℕ) (e w : Bool) → bit_set m i �
     bit_set (bit_and m (bit_or n s)) i ≡ corner B (record { x = suc x; y = y })
 corner_bit B x y m n s i e w here east west north south =
     and_bit m (bit_or n s) i ∙ ap₂ ◌&&◌ here (or_bit n s i ∙ ap₂ ◌||◌ north south) ∙ rw (east, west, sub-one, add-one) (corner_sides B x y)
-
--- a place that is not free is no turning point
-pub corner_blocked : (B : Board) (p : Place) → false ≡ B p.x p.y → false ≡ corner B p
-unfolding corner
-corner_blocked B p e = rw (← e)
-
--- the mask of what the places have that are one step further, direction by direction
-module _ (G : Place → Bool) (y j d r : ℕ) where
-  -- north: the same word of the row before
-  pub beside_north : d ≡ 0 → Mask (λ i. G (spot (y - 1) j i)) r → Mask (λ i. G (go (dir_at d) (spot y j i))) r
-  beside_north e m i l = m i l ∙ rw (e, sub-one)
-
-  -- east: one column after
-  pub beside_east : d ≡ 1 → Mask (λ i. G (record { x = suc (suc (64 * j + i)); y = y })) r → Mask (λ i. G (go (dir_at d) (spot y j i))) r
-  beside_east e m i l = m i l ∙ rw e
-
-  -- south: the same word of the row after
-  pub beside_south : d ≡ 2 → Mask (λ i. G (spot (y + 1) j i)) r → Mask (λ i. G (go (dir_at d) (spot y j i))) r
-  beside_south e m i l = m i l ∙ rw (e, add-one)
-
-  -- west: one column before
-  pub beside_west : d ≡ 3 → Mask (λ i. G (record { x = 64 * j + i; y = y })) r → Mask (λ i. G (go (dir_at d) (spot y j i))) r
-  beside_west e m i l = m i l ∙ rw e

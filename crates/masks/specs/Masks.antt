@@ -1,6 +1,6 @@
 -- Sets of cells as words: a mask has a bit for each of 64 neighbouring places of a row, and the bit is 1 where the place has what is asked.
 use Rattle.std.specs.Prelude.{ℕ, suc, ◌+◌, ◌*◌, ◌/◌, ◌%◌, ◌^◌, ◌<◌, Bool, not, ◌&&◌, ◌||◌, ◌≡◌, eqb}
-use Rattle.floor.specs.Board.{Place}
+use Rattle.floor.specs.Board.{Board, Place}
 
 -- bit k of a word is 1, bit 0 being worth 1
 abbrev pub bit_set : ℕ → ℕ → Bool
@@ -28,3 +28,7 @@ Last a b r = (f : ℕ → Bool) → Mask (λ i. f (64 + i)) a → Mask f b → M
 -- the two is blocked
 abbrev pub nook_test : Bool → Bool → Bool → Bool → Bool → Bool
 nook_test side east west beyondEast beyondWest = side && (east && not beyondEast || west && not beyondWest)
+
+-- the same of the place of column x, its side being row z: of a place, the padded column is one more
+abbrev pub nook_beside : Board → ℕ → ℕ → Bool → Bool → Bool
+nook_beside B z x east west = nook_test (B (suc x) z) east west (B (suc (suc x)) z) (B x z)

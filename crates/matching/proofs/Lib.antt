@@ -1,3 +1,4 @@
 -- Laws that belong to no one function.
 pub mod Tallying
 pub mod Matched
+pub mod Sorted

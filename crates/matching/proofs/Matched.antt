@@ -12,7 +12,7 @@ use Rattle.corners.specs.Lists.{Picked}
 use Rattle.corners.specs.Corners.{corner_cell, corner_cells}
 use Rattle.marks.specs.Marks.{Cleared}
 use Rattle.fields.specs.Fields.{Seen, Sweepable}
-use Rattle.plan.specs.Plan.{LinkedCells, LinksTo}
+use Rattle.plan.specs.Plan.{LinkedCells}
 use Rattle.plan.specs.Rising.{In, Rising}
 use Rattle.plan.proofs.Risings.{rising_equal, rising_same}
 use Rattle.plan.proofs.Pickings.{picked_in, in_picked, picked_rising, rising_picked, select_rising}
@@ -81,8 +81,3 @@ corner_ready w h words clear corners floor clears whole k l =
 -- no start is beyond the neighbours
 pub started_in : {n m : ℕ} {starts : List ℕ} → Started n m starts → (k : ℕ) → k ≤ n → get_or starts k 0 ≤ m
 started_in {n} {m} {starts} s k l = rw (← s.last) (up_to starts n s.rising k l)
-
--- the starts of links
-pub links_started : {w h n : ℕ} {words corners starts neighbours : List ℕ} → LinksTo walkers w h words corners n starts neighbours →
-    Started n (length neighbours) starts
-links_started l = record { one_more = l.one_more; first = l.first; last = l.last; rising = l.rising }

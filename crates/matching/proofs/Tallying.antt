@@ -1,22 +1,22 @@
 -- Counting the turning points that are shown from a cell: each is shown once, so what is counted is as many as there are. Assumes nothing.
 use Prim.Native.Nat.{ℕ, suc, ◌+◌, ◌/◌, ◌%◌, ◌≤◌, ◌<◌}
-use mathlib.Core.List.{List, []}
+use mathlib.Core.List.{List}
 use mathlib.Core.Logic.{inl, inr, ⊎_elim}
-use mathlib.Core.Path.{◌≡◌, refl, ◌∙◌, ap}
+use mathlib.Core.Path.{◌≡◌, refl, sym, ◌∙◌, ap}
 use native.Mathlib.Decide.{ℕ_discrete}
 use native.Mathlib.Omega.{arith}
 use lib.ListN.{length}
 use Rattle.floor.proofs.Places.{padded}
-use Rattle.corners.specs.Lists.{part}
-use Rattle.fields.specs.Fields.{ShownIn, Sweepable, PassedRow}
+use Rattle.fields.specs.Fields.{ShownIn, PassedRow}
 use Rattle.fields.specs.declared.RowEnd.{RowEnd}
 use Rattle.plan.specs.Rising.{In, Rising, insertion}
-use Rattle.plan.proofs.Insertions.{part_length}
 use Rattle.plan.proofs.Onces.{shown_once}
 use Rattle.plan.proofs.Risings.{rising_fewer, in_inserted, still_in, was_in, rising_inserted, inserted_longer}
-use Rattle.plan.proofs.Sweeping.{Passed, passed_begin, passed_all, passed_next, row_seen}
+use Rattle.plan.proofs.Sweeping.{Passed, passed_all, passed_next, row_seen}
 use Rattle.matching.specs.Matching.{TallyShown, Before, ShownBefore, Tallied, Unlisted}
-use Rattle.matching.specs.declared.Tally.TheVariants.{Of, Missing}
+use Rattle.std.specs.Prelude.{Bool, true, false, Option, Some, None}
+use Rattle.std.specs.Bool.{then_some}
+use Rattle.floor.specs.Refusals.{Tells}
 
 -- ---- the order of rows
 -- what comes before a row comes before the next one
@@ -39,6 +39,11 @@ before_other : (f m g n : ℕ) → Before g n f m → f ≡ g → m ≡ n → �
 before_other f m g n (inl l) e k = omega arith
 before_other f m g n (inr (d, l)) e k = omega arith
 
+-- what was shown is counted if it is listed
+pub told_by : (listed : List ℕ) (t count : ℕ) (b : Bool) → Tells (In t listed) b → (r : Option ℕ) → r ≡ then_some b (count + 1) → TallyShown listed (Some t) count r
+told_by listed t count true i r e = rw e (i.yes refl, omega arith)
+told_by listed t count false i r e = rw e (i.no refl)
+
 -- ---- counting
 module _ (w h : ℕ) (words : List ℕ) (cell : ℕ) where
   -- what is shown before one row is shown before another if all that come before the one come before the other
@@ -46,23 +51,14 @@ module _ (w h : ℕ) (words : List ℕ) (cell : ℕ) where
   later q z = record { field = z.field; row = z.row; before = q z.field z.row z.before; shown = z.shown }
 
   module _ (listed : List ℕ) where
-    -- before the first field nothing was shown
-    pub tallied_none : Tallied w h words cell listed 0 0 0
-    tallied_none =
-        record { found = []; rising = tt; many = refl; known = λ t i. absurd i; shown = λ t i. absurd i; all = λ g n t l i. absurd (omega arith) }
-
     -- while field f is swept: what its rows so far show was counted too
-    pub record Tallying (f m reach count : ℕ) : Type 0 where
+    pub record Tallying (f m : ℕ) (ahead : Option ℕ) (count : ℕ) : Type 0 where
       pub tallied : Tallied w h words cell listed f m count
-      pub sweep : Passed w h words cell f (λ t. In t tallied.found) m reach
-
-    -- before the field's first row
-    pub tallying_begin : {clear : List ℕ} {f count : ℕ} → Sweepable w h words cell clear → Tallied w h words cell listed f 0 count → Tallying f 0 255 count
-    tallying_begin {clear} {f} {count} ready a = record { tallied = a; sweep = passed_begin ready f _ }
+      pub sweep : Passed w h words cell f (λ t. In t tallied.found) m ahead
 
     -- after its last
-    pub tallying_end : {f m reach count : ℕ} → Tallying f m reach count → 256 ≤ reach → Tallied w h words cell listed (suc f) 0 count
-    tallying_end {f} {m} {reach} {count} a off =
+    pub tallying_end : {f m : ℕ} {ahead : Option ℕ} {count : ℕ} → Tallying f m ahead count → ahead ≡ None → Tallied w h words cell listed (suc f) 0 count
+    tallying_end {f} {m} {ahead} {count} a off =
         let b = a.tallied in
         record {
           found = b.found;
@@ -77,9 +73,9 @@ module _ (w h : ℕ) (words : List ℕ) (cell : ℕ) where
         by g n t i (yes e) l = passed_all a.sweep off n t (rw e at i)
         by g n t i (no d) l = a.tallied.all g n t (omega (arith, d)) i
 
-    module _ {f m reach count : ℕ} (a : Tallying f m reach count) (in_field : f < 8) {r : RowEnd} (p : PassedRow w h words (cell % w) (cell / w) f m r) where
+    module _ {f m : ℕ} {ahead : Option ℕ} {count : ℕ} (a : Tallying f m ahead count) (in_field : f < 8) {r : RowEnd} (p : PassedRow w h words (cell % w) (cell / w) f m r) where
       -- what the row shows was not counted yet
-      new : (t : ℕ) → r.shown ≡ suc t → ¬ (In t a.tallied.found)
+      new : (t : ℕ) → r.shown ≡ Some t → ¬ (In t a.tallied.found)
       new t e i =
           let z = a.tallied.shown t i in
           let b = before_in f m z.field z.row z.before in
@@ -89,7 +85,7 @@ module _ (w h : ℕ) (words : List ℕ) (cell : ℕ) where
           before_other f m z.field z.row z.before same row
 
       -- the row showed nothing
-      none_shown : r.shown ≡ 0 → Tallying f (m + 1) r.reach count
+      none_shown : r.shown ≡ None → Tallying f (m + 1) r.reach count
       none_shown e =
           let b = a.tallied in
           record {
@@ -101,11 +97,11 @@ module _ (w h : ℕ) (words : List ℕ) (cell : ℕ) where
               shown = λ t i. later (before_next f m) (b.shown t i);
               all = b.all;
             };
-            sweep = passed_next a.sweep p _ (λ t i. i) (λ t z. absurd (omega arith));
+            sweep = passed_next a.sweep p _ (λ t i. i) (λ t z. absurd (let x : ◌≡◌ {A = Option ℕ} None (Some t) = sym e ∙ z in cc));
           }
 
       -- it showed one that is listed
-      one_shown : (t : ℕ) → r.shown ≡ suc t → In t listed → Tallying f (m + 1) r.reach (suc count)
+      one_shown : (t : ℕ) → r.shown ≡ Some t → In t listed → Tallying f (m + 1) r.reach (suc count)
       one_shown t e i =
           let b = a.tallied in
           let xs = b.found in
@@ -118,26 +114,28 @@ module _ (w h : ℕ) (words : List ℕ) (cell : ℕ) where
               shown = λ u k. ⊎_elim (here u) (λ z. later (before_next f m) (b.shown u z)) (was_in u t xs k);
               all = λ g n u l k. still_in u t xs (b.all g n u l k);
             };
-            sweep = passed_next a.sweep p _ (λ u k. still_in u t xs k) (λ u z. let s : u ≡ t = omega arith in rw s (in_inserted t xs));
+            sweep = passed_next a.sweep p _ (λ u k. still_in u t xs k) (λ u z. let s : u ≡ t = cc in rw s (in_inserted t xs));
           }
         where
           here : (u : ℕ) → u ≡ t → ShownBefore w h words cell f (m + 1) u
           here u z = record { field = f; row = m; before = inr (refl, omega arith); shown = rw z (p.said t e) }
 
       -- after the row
-      pub tallying_next : (k : ℕ) → TallyShown listed r.shown count (Of k) → Tallying f (m + 1) r.reach k
-      tallying_next k (inl (e, g)) = rw g (none_shown e)
-      tallying_next k (inr (t, e, i, g)) = rw g (one_shown t e i)
+      pub tallying_next : (k : ℕ) → TallyShown listed r.shown count (Some k) → Tallying f (m + 1) r.reach k
+      tallying_next k told = by r.shown refl told
+        where
+          by : (shown : Option ℕ) → r.shown ≡ shown → TallyShown listed shown count (Some k) → Tallying f (m + 1) r.reach k
+          by None e told = let same : k ≡ count = cc in rw same (none_shown e)
+          by (Some t) e told = rw told.1 (one_shown t e told.0)
 
       -- what is not listed is seen
-      pub tallying_missing : TallyShown listed r.shown count Missing → Unlisted w h words cell listed
-      tallying_missing (t, e, n) = record { t = t; seen = row_seen cell p in_field t e; missing = n }
+      pub tallying_missing : TallyShown listed r.shown count None → Unlisted w h words cell listed
+      tallying_missing told = by r.shown refl told
+        where
+          by : (shown : Option ℕ) → r.shown ≡ shown → TallyShown listed shown count None → Unlisted w h words cell listed
+          by None e told = let x : ◌≡◌ {A = Option ℕ} None (Some count) = told in cc
+          by (Some t) e told = record { t = t; seen = row_seen cell p in_field t e; missing = told }
 
-  -- no more was counted than the list has entries
-  pub tallied_room : (list : List ℕ) (from to : ℕ) → (from ≤ to) × ((to ≤ length list) × Rising (part list from to)) →
-      {f m count : ℕ} → Tallied w h words cell (part list from to) f m count → count ≤ length list
-  tallied_room list from to (l, (m, rising)) a =
-      let few = rising_fewer a.found (part list from to) a.rising rising a.known in
-      let e = a.many in
-      let long = part_length list from to l m in
-      omega arith
+  -- no more was counted than is listed
+  pub tallied_room : (listed : List ℕ) → Rising listed → {f m count : ℕ} → Tallied w h words cell listed f m count → count ≤ length listed
+  tallied_room listed rising a = let few = rising_fewer a.found listed a.rising rising a.known in let e = a.many in omega arith

@@ -5,15 +5,14 @@ use Rattle.corners.specs.Lists.{part, Picked}
 use Rattle.fields.specs.Fields.{ShownIn, Seen}
 use Rattle.plan.specs.Plan.{LinkedCells}
 use Rattle.plan.specs.Rising.{In, Rising}
-use Rattle.matching.specs.declared.Tally.{Tally}
-use Rattle.matching.specs.declared.Tally.TheVariants.{Of, Missing}
+use Rattle.std.specs.Prelude.{Option, Some, None}
 
 -- ---- a turning point's neighbours, counted
 -- a row showed nothing and the count stays, or what it showed is listed and counted; or what it showed is not listed
-abbrev pub TallyShown : List ℕ → ℕ → ℕ → Tally → Type 0
-TallyShown listed shown count (Of k) =
-    ((shown ≡ 0) × (k ≡ count)) ⊎ ((t : ℕ) × (shown ≡ suc t) × In t listed × (k ≡ suc count))
-TallyShown listed shown count Missing = (t : ℕ) × (shown ≡ suc t) × ¬ (In t listed)
+abbrev pub TallyShown : List ℕ → Option ℕ → ℕ → Option ℕ → Type 0
+TallyShown listed None count told = told ≡ Some count
+TallyShown listed (Some t) count (Some k) = In t listed × (k ≡ suc count)
+TallyShown listed (Some t) count None = ¬ (In t listed)
 
 -- row n of field g is passed before row m of field f
 abbrev pub Before : ℕ → ℕ → ℕ → ℕ → Type 0
@@ -44,9 +43,9 @@ module _ (w h : ℕ) (words : List ℕ) (s : ℕ) where
     pub missing : ¬ (In t listed)
 
   -- field f was counted too, or one that it shows is not listed
-  abbrev pub FieldTallied : List ℕ → ℕ → Tally → Type 0
-  FieldTallied listed f (Of k) = Tallied listed (suc f) 0 k
-  FieldTallied listed f Missing = Unlisted listed
+  abbrev pub FieldTallied : List ℕ → ℕ → Option ℕ → Type 0
+  FieldTallied listed f (Some k) = Tallied listed (suc f) 0 k
+  FieldTallied listed f None = Unlisted listed
 
 -- ---- starts
 -- the starts of n turning points with m neighbours: one more than the turning points, from 0 up to m

@@ -2,125 +2,78 @@
 // each is shown once, so no memory is needed for them.
 #![tactic(auto)]
 
-ghost use Rattle.std.specs.Prelude.{true, ◌≡◌, ◌*◌, ◌<◌, ◌≤◌, length};
+ghost use Rattle.std.specs.Prelude.{IfSome, true, ◌≡◌, ◌*◌, ◌<◌, ◌≤◌, length};
 ghost use Rattle.floor.specs.Refusals.{Tells};
-ghost use Rattle.floor.specs.Words.{Floor};
+ghost use Rattle.floor.specs.Lent.{of, on};
 ghost use Rattle.ground.specs.Kind.{walkers};
 ghost use Rattle.corners.specs.Lists.{part, Picked};
 ghost use Rattle.corners.specs.Corners.{corner_cell, corner_cells};
 ghost use Rattle.marks.specs.Marks.{Cleared};
+ghost use Rattle.plan.specs.Lent.{lists_of};
 ghost use Rattle.plan.specs.Plan.{LinkedCells, Links, Fits};
 ghost use Rattle.plan.specs.Rising.{Rising};
 ghost use Rattle.fields.specs.Fields.{Sweepable};
 ghost use Rattle.matching.specs.Matching.{Started, RowsMatch, TallyShown, Tallied, FieldTallied};
 
-// How many turning points were shown, all of them listed; or one is not listed.
-#[derive(Clone, Copy)]
-enum Tally {
-    Of(usize),
-    Missing,
+use floor::Floor;
+use plan::Plan;
+
+// Whether the entries ascend.
+fn rises(row: &[u16]) -> bool
+    ensures { Tells (Rising row.now) result }
+{
+    row.is_sorted_by(|a, b| *a < *b)
 }
 
-// Whether the entries from `from` up to `to` ascend.
-fn rises(list: &[u16], from: usize, to: usize) -> bool
-    requires { (from ≤ to) × (to ≤ length list.now) }
-    ensures { Tells (Rising (part list.now from to)) result }
+// Counts what a row shows, if it shows a cell and the cell is listed; None where it is not listed.
+fn tally_shown(neighbours: &[u16], shown: Option<usize>, count: usize) -> Option<usize>
+    requires rising { Rising neighbours.now }
+    requires small { IfSome shown (λ cell. cell < 65536) × (count ≤ length neighbours.now) }
+    ensures { TallyShown neighbours.now shown count result }
 {
-    if from == to {
-        return true;
-    }
-    let mut i = from + 1;
-    while i < to {
-        if list[i - 1] < list[i] {
-            i += 1;
-        } else {
-            return false;
-        }
-    }
-    true
-}
-
-// Counts what a row shows, one more than a cell or 0 for nothing, if it is listed.
-fn tally_shown(list: &[u16], from: usize, to: usize, shown: usize, count: usize) -> Tally
-    requires part { (from ≤ to) × ((to ≤ length list.now) × Rising (part list.now from to)) }
-    requires small { (shown ≤ 65536) × (count ≤ length list.now) }
-    ensures { TallyShown (part list.now from to) shown count result }
-{
-    if shown == 0 {
-        return Tally::Of(count);
-    }
-    if plan::listed(list, from, to, (shown - 1) as u16) {
-        Tally::Of(count + 1)
-    } else {
-        Tally::Missing
+    match shown {
+        Some(cell) => plan::listed(neighbours, cell as u16).then_some(count + 1),
+        None => Some(count),
     }
 }
 
 // Counts on, for the turning points that a field from `cell` shows.
 fn tally_field(
-    words: &[u64],
-    w: usize,
-    h: usize,
+    floor: &Floor,
     clear: &[u8],
-    list: &[u16],
-    from: usize,
-    to: usize,
+    neighbours: &[u16],
     cell: usize,
     field: usize,
     count: usize,
-) -> Tally
-    requires ready { Sweepable w h words.now cell clear.now × (field < 8) }
-    requires part { (from ≤ to) × ((to ≤ length list.now) × Rising (part list.now from to)) }
-    requires before { Tallied w h words.now cell (part list.now from to) field 0 count }
-    ensures { FieldTallied w h words.now cell (part list.now from to) field result }
+) -> Option<usize>
+    requires ready { on Sweepable floor.now.grid cell clear.now × (field < 8) }
+    requires rising { Rising neighbours.now }
+    requires before { on Tallied floor.now.grid cell neighbours.now field 0 count }
+    ensures { on FieldTallied floor.now.grid cell neighbours.now field result }
 {
-    let sx = cell % w;
-    let sy = cell / w;
     let mut sum = count;
-    let mut row = 0;
-    let mut reach = 255;
-    while reach < fields::ENDED {
-        let e = fields::pass_row(words, w, h, clear, sx, sy, field, row, reach);
-        let tallied = tally_shown(list, from, to, e.shown, sum);
-        let Tally::Of(k) = tallied else {
-            return Tally::Missing;
-        };
-        sum = k;
-        row += 1;
-        reach = e.reach;
+    for shown in fields::rows(floor, clear, cell, field) {
+        sum = tally_shown(neighbours, shown, sum)?;
     }
-    Tally::Of(sum)
+    Some(sum)
 }
 
-// Whether a part of the list has the neighbours of the turning point `cell`, ascending: each that is shown is listed, and no more are.
-fn row_matches(
-    words: &[u64],
-    w: usize,
-    h: usize,
-    clear: &[u8],
-    list: &[u16],
-    from: usize,
-    to: usize,
-    cell: usize,
-) -> bool
-    requires ready { Sweepable w h words.now cell clear.now × (corner_cell w h words.now cell ≡ true) }
-    requires part { (from ≤ to) × (to ≤ length list.now) }
-    ensures { Tells (Picked (LinkedCells walkers w h words.now cell) (corner_cells w h words.now) (part list.now from to)) result }
+// Whether these are the neighbours of the turning point `cell`, ascending: each that is shown is listed, and no more are.
+fn row_matches(floor: &Floor, clear: &[u8], neighbours: &[u16], cell: usize) -> bool
+    requires ready { on Sweepable floor.now.grid cell clear.now × (of corner_cell floor.now.grid cell ≡ true) }
+    ensures { Tells (Picked (on (LinkedCells walkers) floor.now.grid cell) (of corner_cells floor.now.grid) neighbours.now) result }
 {
-    if !rises(list, from, to) {
+    if !rises(neighbours) {
         return false;
     }
     let mut count = 0;
-    let mut field = 0;
-    while field < 8 {
-        let tallied = tally_field(words, w, h, clear, list, from, to, cell, field, count);
-        let Tally::Of(k) = tallied else {
+    for field in 0..8 {
+        let Some(more) = tally_field(floor, clear, neighbours, cell, field, count) else {
             return false;
         };
-        count = k;
-        field += 1;
+        count = more;
     }
-    count == to - from
+    count == neighbours.len()
 }
 
 // Whether the list begins at 0, has n + 1 entries none of which is below the one before it, and ends at m.
@@ -134,44 +87,24 @@ fn starts_match(starts: &[u16], n: usize, m: usize) -> bool
     if starts[0] != 0 {
         return false;
     }
-    if starts[n] as usize != m {
+    if usize::from(starts[n]) != m {
         return false;
     }
-    let mut k = 0;
-    while k < n {
-        if starts[k] <= starts[k + 1] {
-            k += 1;
-        } else {
-            return false;
-        }
-    }
-    true
+    starts.is_sorted()
 }
 
 // Whether the list has the neighbours of each turning point, where the starts say.
-fn rows_match(
-    words: &[u64],
-    w: usize,
-    h: usize,
-    clear: &[u8],
-    corners: &[u16],
-    starts: &[u16],
-    list: &[u16],
-) -> bool
-    requires floor { Floor w h words.now }
-    requires clear { (4 * (w * h) ≤ length clear.now) × Cleared w h words.now clear.now }
-    requires corners { (corners.now ≡ corner_cells w h words.now) × (length corners.now ≤ 2048) }
-    requires starts { Started (length corners.now) (length list.now) starts.now }
-    ensures { Tells (RowsMatch w h words.now corners.now starts.now list.now) result }
+fn rows_match(floor: &Floor, plan: &Plan) -> bool
+    requires clear { (4 * (floor.now.grid.w * floor.now.grid.h) ≤ length plan.now.clear.now) × on Cleared floor.now.grid plan.now.clear.now }
+    requires corners { (plan.now.corners.now ≡ of corner_cells floor.now.grid) × (length plan.now.corners.now ≤ 2048) }
+    requires starts { Started (length plan.now.corners.now) (length plan.now.neighbours.now) plan.now.starts.now }
+    ensures { Tells (on RowsMatch floor.now.grid plan.now.corners.now plan.now.starts.now plan.now.neighbours.now) result }
 {
-    let mut k = 0;
-    while k < corners.len() {
-        let from = starts[k] as usize;
-        let to = starts[k + 1] as usize;
-        let cell = corners[k] as usize;
-        if row_matches(words, w, h, clear, list, from, to, cell) {
-            k += 1;
-        } else {
+    for (k, cell) in plan.corners.iter().enumerate() {
+        let from = usize::from(plan.starts[k]);
+        let to = usize::from(plan.starts[k + 1]);
+        let row = &plan.neighbours[from..to];
+        if !row_matches(floor, plan.clear, row, usize::from(*cell)) {
             return false;
         }
     }
@@ -179,54 +112,32 @@ fn rows_match(
 }
 
 // Whether starts and neighbours are those of the turning points.
-fn links_match(
-    words: &[u64],
-    w: usize,
-    h: usize,
-    clear: &[u8],
-    corners: &[u16],
-    starts: &[u16],
-    list: &[u16],
-) -> bool
-    requires floor { Floor w h words.now }
-    requires clear { (4 * (w * h) ≤ length clear.now) × Cleared w h words.now clear.now }
-    requires corners { (corners.now ≡ corner_cells w h words.now) × (length corners.now ≤ 2048) }
-    ensures { Tells (Links walkers w h words.now corners.now starts.now list.now) result }
+fn links_match(floor: &Floor, plan: &Plan) -> bool
+    requires clear { (4 * (floor.now.grid.w * floor.now.grid.h) ≤ length plan.now.clear.now) × on Cleared floor.now.grid plan.now.clear.now }
+    requires corners { (plan.now.corners.now ≡ of corner_cells floor.now.grid) × (length plan.now.corners.now ≤ 2048) }
+    ensures { Tells (on (Links walkers) floor.now.grid plan.now.corners.now plan.now.starts.now plan.now.neighbours.now) result }
 {
-    if starts_match(starts, corners.len(), list.len()) {
-        rows_match(words, w, h, clear, corners, starts, list)
-    } else {
-        false
-    }
+    starts_match(plan.starts, plan.corners.len(), plan.neighbours.len()) && rows_match(floor, plan)
 }
 
 // Whether four lists are the plan of a floor, within the limits of a plan.
-pub fn matches(
-    words: &[u64],
-    w: usize,
-    h: usize,
-    clear: &[u8],
-    corners: &[u16],
-    starts: &[u16],
-    neighbours: &[u16],
-) -> bool
-    requires { Floor w h words.now }
-    ensures { Tells (Fits w h words.now (record { clear = clear.now; corners = corners.now; starts = starts.now; neighbours = neighbours.now })) result }
+pub fn matches(floor: &Floor, plan: &Plan) -> bool
+    ensures { Tells (on Fits floor.now.grid (lists_of plan.now)) result }
 {
-    if plan::MAX_CORNERS < corners.len() {
+    if plan::MAX_CORNERS < plan.corners.len() {
         return false;
     }
-    if plan::MAX_ARCS < neighbours.len() {
+    if plan::MAX_ARCS < plan.neighbours.len() {
         return false;
     }
-    if clear.len() != 4 * (w * h) {
+    if plan.clear.len() != 4 * (floor.grid.w * floor.grid.h) {
         return false;
     }
-    if !marks::clearances_match(words, w, h, clear) {
+    if !marks::clearances_match(floor, plan.clear) {
         return false;
     }
-    if !corners::corners_match(words, w, h, corners) {
+    if !corners::corners_match(floor, plan.corners) {
         return false;
     }
-    links_match(words, w, h, clear, corners, starts, neighbours)
+    links_match(floor, plan)
 }

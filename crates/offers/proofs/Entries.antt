@@ -1,6 +1,6 @@
 -- What offers make of entries.
 -- Assumes nothing.
-use mathlib.Core.Path.{◌≡◌, refl, ◌∙◌}
+use mathlib.Core.Path.{◌≡◌, refl, sym, ◌∙◌}
 use mathlib.Core.Logic.{◌⊎◌, inl, inr, ⊎_elim}
 use mathlib.Core.List.{List}
 use Prim.Native.Nat.{ℕ, ◌+◌, ◌≤◌, ◌<◌}
@@ -10,7 +10,9 @@ use native.Mathlib.Decide.{ℕ_discrete, dec_lt}
 use borrow.Author.Tests.{lt-ltb, le-ltb}
 use lib.ListN.{length, get_or, set}
 use lib.Seq.{get_or-set_same, get_or-set_other}
+use Rattle.std.specs.Prelude.{Some, None}
 use Rattle.places.specs.Chart.{Chart, link_at, net}
+use Rattle.places.proofs.Cells.{some_one, none_some}
 use Rattle.offers.specs.Offers.{lowered, Offered}
 
 -- What an offer makes of an entry: there is one, it is at most the offer and at most what it was, and is one of the two.
@@ -36,19 +38,19 @@ module _ (𝓒 : Chart) (u d : ℕ) (D : List ℕ) where
 
   module _ (D' : List ℕ) (k : ℕ) (o : Offered 𝓒 u d k D D') where
     -- A link that leads nowhere offers nothing.
-    pub offered_skip : link_at 𝓒 u k ≡ 0 → Offered 𝓒 u d (k + 1) D D'
+    pub offered_skip : link_at 𝓒 u k ≡ None → Offered 𝓒 u d (k + 1) D D'
     offered_skip z = record {
       from = λ v. ⊎_elim inl (λ t. inr (t.0, omega arith, t.2, t.3)) (o.from v);
       kept = o.kept;
       offered = λ j v h q. go j v h q (ℕ_discrete j k);
     }
       where
-        go : (j v : ℕ) → j < k + 1 → link_at 𝓒 u j ≡ v + 1 → Dec (j ≡ k) → (0 < get_or D' v 0) × (get_or D' v 0 ≤ d + (net 𝓒).weight u v)
-        go j v h q (yes e) = let r : link_at 𝓒 u k ≡ v + 1 = rw e at q in absurd (omega arith)
+        go : (j v : ℕ) → j < k + 1 → link_at 𝓒 u j ≡ Some v → Dec (j ≡ k) → (0 < get_or D' v 0) × (get_or D' v 0 ≤ d + (net 𝓒).weight u v)
+        go j v h q (yes e) = absurd (none_some (sym z ∙ rw e at q))
         go j v h q (no n) = o.offered j v (omega arith) q
 
     -- A link that leads to x offers x the way by u.
-    module _ (x : ℕ) (leads : link_at 𝓒 u k ≡ x + 1) (inside : x < length D') (pos : 0 < d) where
+    module _ (x : ℕ) (leads : link_at 𝓒 u k ≡ Some x) (inside : x < length D') (pos : 0 < d) where
       -- the entries after the offer
       abbrev D'' : List ℕ
       D'' = set D' x (lowered (get_or D' x 0) (d + (net 𝓒).weight u x))
@@ -70,10 +72,10 @@ module _ (𝓒 : Chart) (u d : ℕ) (D : List ℕ) where
           go (no n) = rw (elsewhere v n) (h, le_refl _)
 
       -- An entry stays or is the offer.
-      changed : (v : ℕ) → (get_or D'' v 0 ≡ get_or D' v 0) ⊎ ((link_at 𝓒 u k ≡ v + 1) × (get_or D'' v 0 ≡ d + (net 𝓒).weight u v))
+      changed : (v : ℕ) → (get_or D'' v 0 ≡ get_or D' v 0) ⊎ ((link_at 𝓒 u k ≡ Some v) × (get_or D'' v 0 ≡ d + (net 𝓒).weight u v))
       changed v = go (ℕ_discrete v x)
         where
-          go : Dec (v ≡ x) → (get_or D'' v 0 ≡ get_or D' v 0) ⊎ ((link_at 𝓒 u k ≡ v + 1) × (get_or D'' v 0 ≡ d + (net 𝓒).weight u v))
+          go : Dec (v ≡ x) → (get_or D'' v 0 ≡ get_or D' v 0) ⊎ ((link_at 𝓒 u k ≡ Some v) × (get_or D'' v 0 ≡ d + (net 𝓒).weight u v))
           go (yes e) = rw e (⊎_elim inl (λ q. inr (leads, q)) here.one)
           go (no n) = inl (elsewhere v n)
 
@@ -89,9 +91,9 @@ module _ (𝓒 : Chart) (u d : ℕ) (D : List ℕ) where
         offered = λ j v h q. go j v h q (ℕ_discrete j k);
       }
         where
-          go : (j v : ℕ) → j < k + 1 → link_at 𝓒 u j ≡ v + 1 → Dec (j ≡ k) → (0 < get_or D'' v 0) × (get_or D'' v 0 ≤ d + (net 𝓒).weight u v)
+          go : (j v : ℕ) → j < k + 1 → link_at 𝓒 u j ≡ Some v → Dec (j ≡ k) → (0 < get_or D'' v 0) × (get_or D'' v 0 ≤ d + (net 𝓒).weight u v)
           go j v h q (yes e) =
-              let r : link_at 𝓒 u k ≡ v + 1 = rw e at q in
-              let z : v ≡ x = omega arith in
+              let r : link_at 𝓒 u k ≡ Some v = rw e at q in
+              let z : v ≡ x = some_one (sym r ∙ leads) in
               rw z (here.some, here.offer)
           go j v h q (no n) = let a = o.offered j v (omega arith) q in let b = less v a.0 in (b.0, le_trans b.1 a.1)

@@ -2,11 +2,11 @@
 -- Assumes nothing.
 use mathlib.Core.Path.{◌≡◌, refl, sym, ◌∙◌, ap}
 use mathlib.Core.List.{List}
-use Prim.Native.Nat.{ℕ, zero, suc, ◌+◌, ◌*◌, ◌-◌, ◌<◌}
-use native.Mathlib.Numerals.{add-one}
+use Prim.Native.Nat.{ℕ, ◌+◌, ◌*◌, ◌<◌}
 use native.Mathlib.Omega.{arith}
 use borrow.Author.Tests.{lt-ltb, le-ltb}
 use lib.ListN.{length, get_or}
+use Rattle.std.specs.Prelude.{Option, Some, None}
 use Rattle.places.specs.declared.Trip.{Trip}
 use Rattle.places.specs.declared.Flags.{Flags}
 use Rattle.places.specs.Columns.{column_of, Label, Left}
@@ -15,39 +15,32 @@ use Rattle.places.specs.Chart.{chart, arcs_of, link_at, link_count, Ready}
 use Rattle.places.specs.Flagging.{first_told, FlagsOf}
 use Rattle.places.proofs.Told.{told_there, tells}
 use Rattle.places.proofs.Columns.{column_length, left_same, left_trans}
+use Rattle.places.proofs.Cells.{some_one, none_some}
 use Rattle.places.proofs.Links.{link_fits}
 use Rattle.places.proofs.Charts.{chart_same, ready_kept, arcs_most, is_cell, arc_index, arc_link}
-use Rattle.offers.specs.Tree.{Room, Right}
+use Rattle.offers.specs.Tree.{Right}
 use Rattle.offers.specs.Offers.{Offer, Offered, Follow, Followed}
 use Rattle.offers.proofs.Entries.{offered_none, offered_skip, offered_more}
 
--- What is ready has its corners, and room for the columns.
-pub ready_room : {C S E : List ℕ} {t : Trip} {W : List ℕ} → Ready C S E t W → Room C t W
-ready_room r = record { corners = r.fair.corners; few = r.fair.few; room = r.room }
-
 -- One link followed: it leads to a place, which has its offer, or nowhere.
-module _ {C S E : List ℕ} {t : Trip} {W : List ℕ} (u j : ℕ) {r : ℕ} (ready : Ready C S E t W) (there : j < link_count (chart C S E t W) u) (is : r ≡ link_at (chart C S E t W) u j) where
-  -- What the link leads to is one of the places.
-  pub link_inside : (r ≡ 0 → ⊥) → r - 1 < t.k + 2
-  link_inside n = omega (arith, link_fits (chart C S E t W) ready.fair u j there)
-
+module _ {C S E : List ℕ} {t : Trip} {W : List ℕ} (u j : ℕ) (ready : Ready C S E t W) (there : j < link_count (chart C S E t W) u) where
   -- It leads to a place, and that place has its offer.
   pub follow_some :
-      {T W' T' : List ℕ} {d a b far : ℕ} → (r ≡ 0 → ⊥) → a ≡ cell_at C t u → b ≡ cell_at C t (r - 1) → far ≡ apart t.w a b →
-      Offer C t W T (r - 1) (d + far) W' T' →
+      (v : ℕ) {T W' T' : List ℕ} {d a b far : ℕ} → Some v ≡ link_at (chart C S E t W) u j → a ≡ cell_at C t u → b ≡ cell_at C t v → far ≡ apart t.w a b →
+      Offer C t W T v (d + far) W' T' →
       Follow C S E t W T u d j W' T'
-  follow_some n qa qb qf o = record {
-    some = λ v e. let z : r - 1 ≡ v = omega arith in rw (qf, qa, qb, z) at o;
-    none = λ z. absurd (n (is ∙ z));
-    inside = link_fits (chart C S E t W) ready.fair u j there;
+  follow_some v is qa qb qf o = record {
+    some = λ x e. let z : v ≡ x = some_one (is ∙ e) in rw (qf, qa, qb, z) at o;
+    none = λ z. absurd (none_some (sym z ∙ sym is));
+    inside = λ x e. link_fits (chart C S E t W) ready.fair u x j there e;
   }
 
   -- It leads nowhere, and nothing changes.
-  pub follow_none : {T : List ℕ} {d : ℕ} → r ≡ 0 → Follow C S E t W T u d j W T
-  follow_none z = record {
-    some = λ v e. absurd (omega arith);
+  pub follow_none : {T : List ℕ} {d : ℕ} → None ≡ link_at (chart C S E t W) u j → Follow C S E t W T u d j W T
+  follow_none is = record {
+    some = λ v e. absurd (none_some (is ∙ e));
     none = λ q. (refl, refl);
-    inside = link_fits (chart C S E t W) ready.fair u j there;
+    inside = λ v e. absurd (none_some (is ∙ e));
   }
 
 -- At first no link has been followed.
@@ -66,16 +59,15 @@ followed_more {C} {S} {E} {t} {W₀} {T₀} {W} {T} {W'} {T'} {u} {d} {j} ready 
     back : (k : ℕ) (D : List ℕ) → Offered (chart C S E t W) u d k (column_of (t.k + 2) W₀ Label) D → Offered (chart C S E t W₀) u d k (column_of (t.k + 2) W₀ Label) D
     back k D x = rw (← (chart_same C S E t f.left)) x
 
-    go : (x : ℕ) → link_at (chart C S E t W) u j ≡ x → Followed C S E t W₀ T₀ u d (j + 1) W' T'
-    go zero q =
+    go : (x : Option ℕ) → link_at (chart C S E t W) u j ≡ x → Followed C S E t W₀ T₀ u d (j + 1) W' T'
+    go None q =
         rw ((l.none q).0, (l.none q).1)
         (record { offered = back (j + 1) _ (offered_skip _ _ _ _ _ _ o q); settled = f.settled; left = f.left; right = f.right; tree = f.tree })
-    go (suc v) q =
-        let e : link_at (chart C S E t W) u j ≡ v + 1 = q ∙ sym (add-one v) in
-        let a = l.some v e in
-        let inside : v < length (column_of (t.k + 2) W Label) = rw (column_length (t.k + 2) W Label (omega arith) ready.room) (omega (arith, l.inside)) in
+    go (Some v) q =
+        let a = l.some v q in
+        let inside : v < length (column_of (t.k + 2) W Label) = rw (column_length (t.k + 2) W Label (omega arith) ready.room) (l.inside v q) in
         record {
-          offered = rw a.label (back (j + 1) _ (offered_more (chart C S E t W) u d (column_of (t.k + 2) W₀ Label) (column_of (t.k + 2) W Label) j o v e inside pos));
+          offered = rw a.label (back (j + 1) _ (offered_more (chart C S E t W) u d (column_of (t.k + 2) W₀ Label) (column_of (t.k + 2) W Label) j o v q inside pos));
           settled = a.settled ∙ f.settled;
           left = left_trans f.left a.left;
           right = a.right;
@@ -99,9 +91,9 @@ module _ {C S E : List ℕ} {t : Trip} {W₁ T₁ : List ℕ} {u d i j : ℕ} {W
   follow_kept : {W' T' : List ℕ} → Follow C S E t W T u d j W' T' → Left (t.k + 2) W W' × Right C t W' T' × (length T' ≡ length T)
   follow_kept {W'} {T'} l = go (link_at (chart C S E t W) u j) refl
     where
-      go : (x : ℕ) → link_at (chart C S E t W) u j ≡ x → Left (t.k + 2) W W' × Right C t W' T' × (length T' ≡ length T)
-      go zero q = rw ((l.none q).0, (l.none q).1) (left_same _ _, f.right, refl)
-      go (suc v) q = let a = l.some v (q ∙ sym (add-one v)) in (a.left, a.right, a.tree)
+      go : (x : Option ℕ) → link_at (chart C S E t W) u j ≡ x → Left (t.k + 2) W W' × Right C t W' T' × (length T' ≡ length T)
+      go None q = rw ((l.none q).0, (l.none q).1) (left_same _ _, f.right, refl)
+      go (Some v) q = let a = l.some v q in (a.left, a.right, a.tree)
 
   -- One turn more.
   pub following_more : {W' T' : List ℕ} → 0 < d → Follow C S E t W T u d j W' T' → Following C S E t W₁ T₁ u d i (j + 1) W' T'
@@ -126,9 +118,8 @@ module _ {C S E : List ℕ} {t : Trip} {W Q : List ℕ} (u j : ℕ) (ready : Rea
       {T W' T' : List ℕ} {d a b v far : ℕ} → a ≡ cell_at C t u → b ≡ to → v ≡ get_or Q b 0 → far ≡ apart t.w a b → Offer C t W T v (d + far) W' T' →
       Follow C S E t W T u d j W' T'
   arc_followed qa qb qv qf o =
-      let z : index_of C to + 1 - 1 ≡ index_of C to = omega arith in
-      let v-is = qv ∙ ap (λ (x : ℕ). get_or Q x 0) qb ∙ arc_index u j ready indexed corner there ∙ sym z in
-      follow_some u j ready (omega (arith, there, arcs_most C S E t W u corner)) (arc_link u j ready indexed corner there) (λ q. omega arith) qa (qb ∙ sym (is_cell u j ready indexed corner there) ∙ ap (cell_at C t) (sym z)) qf (rw v-is at o)
+      let v-is = qv ∙ ap (λ (x : ℕ). get_or Q x 0) qb ∙ arc_index u j ready indexed corner there in
+      follow_some u j ready (omega (arith, there, arcs_most C S E t W u corner)) _ (arc_link u j ready indexed corner there) qa (qb ∙ sym (is_cell u j ready indexed corner there)) qf (rw v-is at o)
 
 -- ---- the links that flags tell of
 module _ {C S E : List ℕ} {t : Trip} {W : List ℕ} {u : ℕ} {f : Flags} (i : ℕ) (ready : Ready C S E t W) (inside : u < t.k + 2) (is : FlagsOf t u f) (there : i < f.count) where
@@ -141,12 +132,9 @@ module _ {C S E : List ℕ} {t : Trip} {W : List ℕ} {u : ℕ} {f : Flags} (i :
       {T W' T' : List ℕ} {d a b far : ℕ} → 0 < flag → a ≡ cell_at C t u → b ≡ cell_at C t (f.to + i) → far ≡ apart t.w a b → Offer C t W T (f.to + i) (d + far) W' T' →
       Follow C S E t W T u d (first_told S t.k u + i) W' T'
   flag_followed h qa qb qf o =
-      let z : f.to + i + 1 - 1 ≡ f.to + i = omega arith in
-      let to = sym (rw (lt-ltb 0 flag h) at (tells i ready inside is there).link) in
-      follow_some u (first_told S t.k u + i) ready (told_there i ready inside is there) to (λ q. omega arith) qa (qb ∙ ap (cell_at C t) (sym z)) qf (rw (sym z) at o)
+      follow_some u (first_told S t.k u + i) ready (told_there i ready inside is there) _ (sym (rw (lt-ltb 0 flag h) at (tells i ready inside is there).link)) qa qb qf o
 
   -- It is not set, and nothing changes.
   pub flag_passed : {T : List ℕ} {d : ℕ} → flag ≡ 0 → Follow C S E t W T u d (first_told S t.k u + i) W T
   flag_passed z =
-      let to = sym (rw (le-ltb 0 flag (omega arith)) at (tells i ready inside is there).link) in
-      follow_none u (first_told S t.k u + i) ready (told_there i ready inside is there) to refl
+      follow_none u (first_told S t.k u + i) ready (told_there i ready inside is there) (sym (rw (le-ltb 0 flag (omega arith)) at (tells i ready inside is there).link))

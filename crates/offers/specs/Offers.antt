@@ -1,6 +1,6 @@
 -- What offers do to the work space.
 -- Assumes nothing.
-use Rattle.std.specs.Prelude.{◌≡◌, ◌⊎◌, cond, List, ℕ, ◌+◌, ◌≤◌, ◌<◌, min, ltb, length, get_or, set}
+use Rattle.std.specs.Prelude.{◌≡◌, ◌⊎◌, cond, List, Some, None, ℕ, ◌+◌, ◌≤◌, ◌<◌, min, ltb, length, get_or, set}
 use Rattle.places.specs.declared.Trip.{Trip}
 use Rattle.places.specs.Columns.{column_of, Label, Settled, Left}
 use Rattle.places.specs.Chart.{Chart, chart, link_at, net}
@@ -25,15 +25,15 @@ pub record Offer (C : List ℕ) (t : Trip) (W T : List ℕ) (v new : ℕ) (W' T'
 -- Between D and D' the place u, whose entry is d, has offered a way along its links below the k-th: an entry changes only to an offer, is
 -- never lost and never grows, and is at most each offer.
 pub record Offered (𝓒 : Chart) (u d k : ℕ) (D D' : List ℕ) : Type 0 where
-  pub from : (v : ℕ) → (get_or D' v 0 ≡ get_or D v 0) ⊎ ((j : ℕ) × (j < k) × (link_at 𝓒 u j ≡ v + 1) × (get_or D' v 0 ≡ d + (net 𝓒).weight u v))
+  pub from : (v : ℕ) → (get_or D' v 0 ≡ get_or D v 0) ⊎ ((j : ℕ) × (j < k) × (link_at 𝓒 u j ≡ Some v) × (get_or D' v 0 ≡ d + (net 𝓒).weight u v))
   pub kept : (v : ℕ) → 0 < get_or D v 0 → (0 < get_or D' v 0) × (get_or D' v 0 ≤ get_or D v 0)
-  pub offered : (j v : ℕ) → j < k → link_at 𝓒 u j ≡ v + 1 → (0 < get_or D' v 0) × (get_or D' v 0 ≤ d + (net 𝓒).weight u v)
+  pub offered : (j v : ℕ) → j < k → link_at 𝓒 u j ≡ Some v → (0 < get_or D' v 0) × (get_or D' v 0 ≤ d + (net 𝓒).weight u v)
 
 -- Link j of u has been followed: the place that it leads to, if it leads to one, has been offered d and the link's length.
 pub record Follow (C S E : List ℕ) (t : Trip) (W T : List ℕ) (u d j : ℕ) (W' T' : List ℕ) : Type 0 where
-  pub some : (v : ℕ) → link_at (chart C S E t W) u j ≡ v + 1 → Offer C t W T v (d + (net (chart C S E t W)).weight u v) W' T'
-  pub none : link_at (chart C S E t W) u j ≡ 0 → (W' ≡ W) × (T' ≡ T)
-  pub inside : link_at (chart C S E t W) u j ≤ t.k + 2
+  pub some : (v : ℕ) → link_at (chart C S E t W) u j ≡ Some v → Offer C t W T v (d + (net (chart C S E t W)).weight u v) W' T'
+  pub none : link_at (chart C S E t W) u j ≡ None → (W' ≡ W) × (T' ≡ T)
+  pub inside : (v : ℕ) → link_at (chart C S E t W) u j ≡ Some v → v < t.k + 2
 
 -- The links of u below the k-th have been followed.
 pub record Followed (C S E : List ℕ) (t : Trip) (W T : List ℕ) (u d k : ℕ) (W' T' : List ℕ) : Type 0 where

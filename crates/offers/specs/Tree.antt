@@ -14,12 +14,6 @@ waits_at D F p = cond (ltb 0 (get_or F p 0)) false (ltb 0 (get_or D p 0))
 unfoldable pub leaf_of : List ℕ → List ℕ → (ℕ → ℕ) → ℕ → ℕ
 leaf_of D F cell p = cond (waits_at D F p) (key_of (get_or D p 0) (cell p) p) nobody
 
--- What the search needs of the trip: its corners, and room for the columns.
-pub record Room (C : List ℕ) (t : Trip) (W : List ℕ) : Type 0 where
-  pub corners : length C ≡ t.k
-  pub few : t.k ≤ 2048
-  pub room : 6 * (t.k + 2) ≤ length W
-
 -- The cells of places fit the fourteen bits that a key has for them.
 abbrev pub Small : List ℕ → Trip → Type 0
 Small C t = (p : ℕ) → p < t.k + 2 → cell_at C t p < 16384

@@ -4,6 +4,7 @@ use mathlib.Core.List.{List, [], ◌∷◌, ◌++◌}
 use mathlib.Core.Logic.{inl, inr}
 use mathlib.Core.Path.{◌≡◌, refl, sym, ap, ap₂, subst, ◌∙◌}
 use native.Mathlib.Omega.{arith}
+use Rattle.std.specs.Prelude.{Result, Ok, Err}
 use lib.ListN.{length, take, drop, length-append, length-drop}
 use lib.Seq.{take_at, length-take-le}
 use Rattle.floor.specs.Refusals.{Refusal, FirstOf, Numbered}
@@ -16,8 +17,7 @@ use Rattle.survey.specs.declared.Surveyed.{Surveyed}
 use Rattle.writing.specs.Answers.{Put, floor_line, survey_refused, input_refused}
 use Rattle.writing.proofs.Puts.{digits_64, floor_length, survey_length, input_length}
 use Rattle.opening.specs.Openings.{MapAt, Largest, bad_floor, cut_plan, SiteOpen, OpenedTo, FloorPut, FloorOpened}
-use Rattle.opening.specs.declared.Opened.{Opened}
-use Rattle.opening.specs.declared.Opened.TheVariants as opening
+use Rattle.opening.specs.declared.Refused.{Refused}
 use Rattle.opening.specs.declared.Site.{Site}
 
 -- ---- how many bytes
@@ -124,12 +124,12 @@ module _ (text words : List ℕ) (w h next : ℕ) (lent left : Lists) (before af
       })
 
   -- a survey of the map's words, n of them to a row
-  pub opened : (n : ℕ) → n ≡ row_words w → (r : Opened) → FloorOpened w h next (take (h * n) words) lent left before after r → OpenedTo text words left before after r
+  pub opened : (n : ℕ) → n ≡ row_words w → (r : Result Site Refused) → FloorOpened w h next (take (h * n) words) lent left before after r → OpenedTo text words left before after r
   opened n e r p = by r (subst (λ k. FloorOpened w h next (take (h * k) words) lent left before after r) e p)
     where
-      by : (r : Opened) → FloorOpened w h next (take (h * row_words w) words) lent left before after r → OpenedTo text words left before after r
-      by (opening.Floor s) p = site_open s p
-      by (opening.Refused used) p =
+      by : (r : Result Site Refused) → FloorOpened w h next (take (h * row_words w) words) lent left before after r → OpenedTo text words left before after r
+      by (Ok s) p = site_open s p
+      by (Err r) p =
           record {
             bytes = survey_refused p.answer.code;
             turned =

@@ -1,5 +1,5 @@
 -- What stands before the trips (01, "Floorwalk: the program and its listing"): the sizes, the map and its survey, or the first refusal.
-use Rattle.std.specs.Prelude.{ℕ, ◌+◌, ◌*◌, ◌^◌, ◌<◌, ◌≤◌, List, ◌≡◌, length, get_or, take}
+use Rattle.std.specs.Prelude.{ℕ, ◌+◌, ◌*◌, ◌^◌, ◌<◌, ◌≤◌, List, ◌≡◌, length, get_or, take, Result, Ok, Err}
 use Rattle.floor.specs.Words.{row_words, free_cells, SizeRefused, Floor}
 use Rattle.plan.specs.Plan.{Lists, PlanOf}
 use Rattle.survey.specs.Survey.{lists, SurveyOutcome}
@@ -8,8 +8,7 @@ use Rattle.reading.specs.Lines.{At, TwoLine}
 use Rattle.reading.specs.Maps.{RowAt, row_place, Filled}
 use Rattle.writing.specs.Answers.{Put, floor_line, survey_refused, input_refused}
 use Rattle.opening.specs.Grounds.{Ground, Walkable}
-use Rattle.opening.specs.declared.Opened.{Opened}
-use Rattle.opening.specs.declared.Opened.TheVariants as opened
+use Rattle.opening.specs.declared.Refused.{Refused}
 use Rattle.opening.specs.declared.Site.{Site}
 
 -- line 1 gives sizes that are not refused, and the rows of the map begin at `from`
@@ -116,9 +115,9 @@ pub record TurnedPut (text before after : List ℕ) (used : ℕ) : Type 0 where
   pub short : used ≤ 256
 
 -- what opening a text comes to
-abbrev pub OpenedTo : List ℕ → List ℕ → Lists → List ℕ → List ℕ → Opened → Type 0
-OpenedTo text words left before after (opened.Floor s) = SiteOpen text words left before after s
-OpenedTo text words left before after (opened.Refused used) = TurnedPut text before after used
+abbrev pub OpenedTo : List ℕ → List ℕ → Lists → List ℕ → List ℕ → Result Site Refused → Type 0
+OpenedTo text words left before after (Ok s) = SiteOpen text words left before after s
+OpenedTo text words left before after (Err r) = TurnedPut text before after r.used
 
 -- what a survey takes: a floor of accepted sizes, and room
 pub record Surveyable (w h : ℕ) (words : List ℕ) (lent : Lists) (out : List ℕ) : Type 0 where
@@ -149,9 +148,9 @@ pub record FloorPut (w h next : ℕ) (words : List ℕ) (left : Lists) (before a
   pub short : s.used ≤ 256
 
 -- what surveying a floor comes to
-abbrev pub FloorOpened : ℕ → ℕ → ℕ → List ℕ → Lists → Lists → List ℕ → List ℕ → Opened → Type 0
-FloorOpened w h next words lent left before after (opened.Floor s) = FloorPut w h next words left before after s
-FloorOpened w h next words lent left before after (opened.Refused used) = SurveyPut w h words lent left before after used
+abbrev pub FloorOpened : ℕ → ℕ → ℕ → List ℕ → Lists → Lists → List ℕ → List ℕ → Result Site Refused → Type 0
+FloorOpened w h next words lent left before after (Ok s) = FloorPut w h next words left before after s
+FloorOpened w h next words lent left before after (Err r) = SurveyPut w h words lent left before after r.used
 
 -- an open floor, as its lists are handed on
 pub record Kept (text : List ℕ) (s : Site) (words : List ℕ) (left : Lists) (out : List ℕ) : Type 0 where

@@ -1,10 +1,12 @@
 // What stands before the trips in the text that floorwalk takes: the sizes, the map and its survey.
+//
+// The lists of a plan are lent one by one: they become a plan only by the survey, which takes each as a slice of its own.
 #![tactic(auto)]
 
 ghost use Rattle.survey.specs.Survey.{lists};
 ghost use Rattle.opening.specs.Openings.{SizesAt, Lent, Surveyable, FloorOpened, OpenedTo};
 
-use reading::{Rows, Two};
+use floor::Refusal;
 
 // A surveyed floor: its sizes, how many turning points and arcs its plan has, where the text goes on, and how many bytes of output there are.
 #[derive(Clone, Copy)]
@@ -17,11 +19,10 @@ pub struct Site {
     pub used: usize,
 }
 
-// A floor to walk on; or a refusal, which has so many bytes.
+// A refusal that has been written in place of a floor's line: how many bytes of output there are.
 #[derive(Clone, Copy)]
-pub enum Opened {
-    Floor(Site),
-    Refused(usize),
+pub struct Refused {
+    pub used: usize,
 }
 
 // Surveys a floor, after whose map the text goes on at `next`, and writes its line.
@@ -35,18 +36,21 @@ fn survey_floor(
     starts: &mut [u16],
     arcs: &mut [u16],
     out: &mut [u8],
-) -> Opened
+) -> Result<Site, Refused>
     requires { Surveyable w h words.now (lists clear.old corners.old starts.old arcs.old) out.old }
-    ensures { FloorOpened w h next words.now (lists clear.old corners.old starts.old arcs.old) (lists clear.new corners.new starts.new arcs.new) out.old out.new result }
+    ensures { FloorOpened w h next words.now (lists clear.old corners.old starts.old arcs.old)
+        (lists clear.new corners.new starts.new arcs.new) out.old out.new result }
 {
     let s = survey::survey(words, w, h, clear, corners, starts, arcs);
+    // `survey` answers by number, as C programs get it.
     if s.code != 0 {
-        return Opened::Refused(writing::put_survey_refused(out, s.code as u64));
+        let used = writing::put_survey_refused(out, u64::from(s.code));
+        return Err(Refused { used });
     }
-    let k = s.corners as u64;
-    let m = s.arcs as u64;
-    let used = writing::put_floor(out, w as u64, h as u64, s.free as u64, k, m);
-    Opened::Floor(Site {
+    let k = u64::from(s.corners);
+    let m = u64::from(s.arcs);
+    let used = writing::put_floor(out, w as u64, h as u64, u64::from(s.free), k, m);
+    Ok(Site {
         w,
         h,
         corners: s.corners as usize,
@@ -68,14 +72,16 @@ fn open_map(
     starts: &mut [u16],
     arcs: &mut [u16],
     out: &mut [u8],
-) -> Opened
+) -> Result<Site, Refused>
     requires { SizesAt text.now w h from × Lent words.old (lists clear.old corners.old starts.old arcs.old) out.old }
     ensures { OpenedTo text.now words.new (lists clear.new corners.new starts.new arcs.new) out.old out.new result }
 {
     match reading::read_rows(text, from, w, h, words) {
         // The sizes are line 1, so row y is line y + 2.
-        Rows::Bad(y) => Opened::Refused(writing::put_input_refused(out, (y + 2) as u64)),
-        Rows::All(next) => {
+        Err(bad) => Err(Refused {
+            used: writing::put_input_refused(out, (bad.row + 2) as u64),
+        }),
+        Ok(next) => {
             let n = h * floor::row_words(w);
             survey_floor(&words[..n], w, h, next, clear, corners, starts, arcs, out)
         }
@@ -91,16 +97,22 @@ pub fn open_site(
     starts: &mut [u16],
     arcs: &mut [u16],
     out: &mut [u8],
-) -> Opened
+) -> Result<Site, Refused>
     requires { Lent words.old (lists clear.old corners.old starts.old arcs.old) out.old }
     ensures { OpenedTo text.now words.new (lists clear.new corners.new starts.new arcs.new) out.old out.new result }
 {
-    let Two::Line(w, h, from) = reading::read_two(text, 0) else {
-        return Opened::Refused(writing::put_input_refused(out, 1));
+    let Some(sizes) = reading::read_two(text, 0) else {
+        let used = writing::put_input_refused(out, 1);
+        return Err(Refused { used });
     };
+    let w = sizes.first;
+    let h = sizes.second;
     // No row is read of a floor whose sizes the survey refuses.
     if floor::size_refused(w, h) {
-        return Opened::Refused(writing::put_survey_refused(out, 1));
+        let used = writing::put_survey_refused(out, Refusal::Size as u64);
+        return Err(Refused { used });
     }
-    open_map(text, from, w, h, words, clear, corners, starts, arcs, out)
+    open_map(
+        text, sizes.next, w, h, words, clear, corners, starts, arcs, out,
+    )
 }

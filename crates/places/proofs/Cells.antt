@@ -1,6 +1,7 @@
 -- Laws of cells: where one stands in an ascending list, and how far two are apart.
 -- Assumes nothing.
 use mathlib.Core.Path.{◌≡◌, refl, sym, ◌∙◌, ap, ap₂}
+use mathlib.Core.Bool.{true, false, true≢false}
 use mathlib.Core.List.{List, [], ◌∷◌}
 use Prim.Native.Nat.{ℕ, zero, suc, ◌+◌, ◌*◌, ◌-◌, ◌/◌, ◌%◌, ◌≤◌, ◌<◌, min}
 use native.Mathlib.Nat.{le_refl, le_of_suc-le-suc, mod-lt, div-add-mod', div-lt_iff_lt-mul}
@@ -9,11 +10,45 @@ use native.Mathlib.Decide.{ℕ_discrete, dec_lt}
 use borrow.Author.Tests.{eq-eqb, ne_eqb, lt-ltb, le-ltb}
 use lib.ListN.{length, get_or, set, length-set}
 use lib.Seq.{get_or-set_same, get_or-set_other}
+use Rattle.std.specs.Prelude.{Option, Some, None, is_some, Result, Ok, Err, MatchResult}
+use Rattle.std.specs.Option.{unwrap_or}
+use Rattle.std.specs.Result.{OkIff, result_ok}
+use Rattle.std.specs.Ordering.{nat_cmp}
+use Rattle.std.specs.List.Sorted.{IsBinarySearchResult}
+use Rattle.std.proofs.lemmas.List.Sorted.{searched}
 use Rattle.lengths.specs.Octile.{gap_none}
 use Rattle.lengths.specs.Lengths.{gap, octile_of}
 use Rattle.lengths.specs.Laws.{weight}
 use Rattle.places.specs.declared.Trip.{Trip}
-use Rattle.places.specs.Places.{index_of, Ascending, Bound, Gain, Indexed, cell_at, apart, TwoCells}
+use Rattle.places.specs.Places.{index_of, Ascending, Found, Indexed, cell_at, apart, TwoCells}
+
+-- One place is not two.
+pub some_one : {x v : ℕ} → Some x ≡ Some v → x ≡ v
+some_one {x} {v} q = let e : x ≡ v = cc in e
+
+-- No place is none.
+pub none_some : {v : ℕ} → None ≡ Some v → ⊥
+none_some {v} q = let z : ◌≡◌ {A = ℕ} 0 1 = cc in absurd (omega arith)
+
+-- What is not some place is none.
+pub none_of : (r : Option ℕ) → is_some r ≡ false → r ≡ None
+none_of None q = refl
+none_of (Some v) q = absurd (true≢false q)
+
+-- What is some place is one.
+pub some_of : (r : Option ℕ) → is_some r ≡ true → (v : ℕ) × (r ≡ Some v)
+some_of None q = absurd (true≢false (sym q))
+some_of (Some v) q = (v, refl)
+
+-- A number that is told as one of 16 bits is that number.
+pub narrow_some : {E : Type 0} (r : Result ℕ E) {cell x : ℕ} → OkIff r (cell < 65536) cell → Some x ≡ result_ok r → x ≡ cell
+narrow_some (Ok y) h q = some_one q ∙ h.1
+narrow_some (Err e) h q = absurd (none_some (sym q))
+
+-- One that is not so told does not fit.
+pub narrow_none : {E : Type 0} (r : Result ℕ E) {cell : ℕ} → OkIff r (cell < 65536) cell → None ≡ result_ok r → 65536 ≤ cell
+narrow_none (Ok y) h q = absurd (none_some q)
+narrow_none (Err e) h q = omega (arith, h)
 
 -- Where a cell first stands is its index.
 pub index_first : (C : List ℕ) (cell i : ℕ) → i < length C → get_or C i 0 ≡ cell → ((j : ℕ) → j < i → get_or C j 0 ≡ cell → ⊥) → index_of C cell ≡ i
@@ -50,50 +85,6 @@ index_at (x ∷ xs) cell h = go (ℕ_discrete x cell) (index_at xs cell)
     go (yes q) rest = rw (eq-eqb x cell q) q
     go (no n) rest = rw (ne_eqb x cell n) (rest (le_of_suc-le-suc (rw (ne_eqb x cell n) at h)))
 
--- ---- a search by halves
--- The quotient is 1 where c is less than x.
-pub quotient_less : {c x : ℕ} → c < 65536 → x ≤ 65536 → c < x → (131071 + x - c) / 131072 ≡ 1
-quotient_less h k l = omega arith
-
--- It is 0 where c is not.
-pub quotient_other : {c x : ℕ} → c < 65536 → x ≤ 65536 → x ≤ c → (131071 + x - c) / 131072 ≡ 0
-quotient_other h k l = omega arith
-
--- A product with it is no more than the other factor.
-pub gain_most : (c x half : ℕ) → c < 65536 → x ≤ 65536 → half * ((131071 + x - c) / 131072) ≤ half
-gain_most c x half h k = go (dec_lt c x)
-  where
-    go : Dec (c < x) → half * ((131071 + x - c) / 131072) ≤ half
-    go (yes l) = rw (quotient_less h k l) (omega arith)
-    go (no m) = rw (quotient_other h k (omega arith)) (omega arith)
-
--- What is gained is no more than the half.
-pub gain_fits : {c x half r : ℕ} → Gain c x half r → r ≤ half
-gain_fits {c} {x} {half} {r} g = go (dec_lt c x)
-  where
-    go : Dec (c < x) → r ≤ half
-    go (yes l) = omega (arith, g.less l)
-    go (no m) = omega (arith, g.other (omega arith))
-
--- The two ends close in: what is below the one is less than the cell, and what is from the other on is not.
-pub record Ends (C : List ℕ) (cell lo hi : ℕ) : Type 0 where
-  pub low : lo ≤ hi
-  pub high : hi ≤ length C
-  pub before : (i : ℕ) → i < lo → get_or C i 0 < cell
-  pub after : (i : ℕ) → hi ≤ i → i < length C → cell ≤ get_or C i 0
-
--- At first nothing is known.
-pub ends_first : (C : List ℕ) (cell : ℕ) → Ends C cell 0 (0 + length C)
-ends_first C cell = record { low = omega arith; high = omega arith; before = λ i h. absurd (omega arith); after = λ i h l. absurd (omega arith) }
-
--- Where the ends meet, the bound is found.
-pub ends_met : (C : List ℕ) (cell lo hi : ℕ) → Ends C cell lo hi → hi ≤ lo → Bound C cell lo
-ends_met C cell lo hi e h = record {
-  within = omega (arith, e.low, e.high);
-  before = e.before;
-  after = λ i k l. e.after i (omega arith) l;
-}
-
 module _ (C : List ℕ) (up : Ascending C) where
   -- In an ascending list no cell stands twice.
   pub ascending_once : (i j : ℕ) → i < length C → j < length C → get_or C i 0 ≡ get_or C j 0 → i ≡ j
@@ -108,25 +99,7 @@ module _ (C : List ℕ) (up : Ascending C) where
   pub index_of_entry : (i : ℕ) → i < length C → index_of C (get_or C i 0) ≡ i
   index_of_entry i h = index_first C (get_or C i 0) i h refl (λ j l e. omega (arith, up j i l h))
 
-  module _ (cell at : ℕ) (b : Bound C cell at) where
-    -- A search by halves has come to the cell: this is its index.
-    pub bound_found : at < length C → get_or C at 0 ≡ cell → at ≡ index_of C cell
-    bound_found h q = sym (index_first C cell at h q (λ j l e. omega (arith, b.before j l)))
-
-    -- It has come to another: the cell is not there.
-    pub bound_other : at < length C → (get_or C at 0 ≡ cell → ⊥) → length C ≡ index_of C cell
-    bound_other h n = sym (index_none C cell (λ i l e. go i l e (dec_lt i at) (dec_lt at i)))
-      where
-        go : (i : ℕ) → i < length C → get_or C i 0 ≡ cell → Dec (i < at) → Dec (at < i) → ⊥
-        go i l e (yes m) k = omega (arith, b.before i m)
-        go i l e (no m) (yes k) = omega (arith, b.after at (le_refl at) h, up at i k l)
-        go i l e (no m) (no k) = let q : i ≡ at = omega arith in n (rw q at e)
-
-    -- It has come to the end: the cell is not there.
-    pub bound_end : length C ≤ at → length C ≡ index_of C cell
-    bound_end h = sym (index_none C cell (λ i l e. omega (arith, b.before i (omega arith))))
-
-  -- no entry is more than a later one
+  -- No entry is more than a later one.
   no_more : (i j : ℕ) → i ≤ j → j < length C → get_or C i 0 ≤ get_or C j 0
   no_more i j h l = go (dec_lt i j)
     where
@@ -134,33 +107,35 @@ module _ (C : List ℕ) (up : Ascending C) where
       go (yes m) = omega (arith, up i j m l)
       go (no m) = let q : i ≡ j = omega arith in rw q (le_refl _)
 
-  module _ {cell lo len half : ℕ} (e : Ends C cell lo (lo + len)) (some : 0 < len) (middle : half ≡ (len + 1) / 2) where
-    -- The middle entry is less: all up to it are.
-    ends_up : get_or C (lo + half - 1) 0 < cell → Ends C cell (lo + half) (lo + half + (len - half))
-    ends_up less = record {
-      low = omega arith;
-      high = omega (arith, e.high);
-      before = λ i k. omega (arith, no_more i (lo + half - 1) (omega arith) (omega (arith, e.high)));
-      after = λ i k l. e.after i (omega arith) l;
-    }
+  -- What a binary search for a cell says is its index.
+  pub search_found : (cell : ℕ) (r : Result ℕ ℕ) → IsBinarySearchResult (λ y. nat_cmp y cell) C r → Found C cell (result_ok r)
+  search_found cell r is = go r (searched C cell r is no_more)
+    where
+      go : (r : Result ℕ ℕ) →
+          MatchResult r (λ i. (i < length C) × (get_or C i 0 ≡ cell)) (λ i. (i ≤ length C) × ((k : ℕ) → k < i → get_or C k 0 < cell) × ((k : ℕ) → i ≤ k → k < length C → cell < get_or C k 0)) →
+          Found C cell (result_ok r)
+      go (Ok i) h = (h.0, sym (index_first C cell i h.0 h.1 (λ j l e. omega (arith, up j i l h.0))))
+      go (Err i) h = index_none C cell (λ j l e. other i h j l e (dec_lt j i))
+        where
+          other : (i : ℕ) → (i ≤ length C) × ((k : ℕ) → k < i → get_or C k 0 < cell) × ((k : ℕ) → i ≤ k → k < length C → cell < get_or C k 0) → (j : ℕ) → j < length C → get_or C j 0 ≡ cell → Dec (j < i) → ⊥
+          other i h j l e (yes m) = omega (arith, h.1 j m)
+          other i h j l e (no m) = omega (arith, h.2 j (omega arith) l)
 
-    -- The middle entry is not less: none from it on is.
-    ends_down : cell ≤ get_or C (lo + half - 1) 0 → Ends C cell lo (lo + (len - half))
-    ends_down more = record {
-      low = omega arith;
-      high = omega (arith, e.high);
-      before = e.before;
-      after = λ i k l. omega (arith, no_more (lo + half - 1) i (omega arith) l);
-    }
+module _ (C : List ℕ) (cell : ℕ) where
+  -- What is found where the cell is there.
+  pub found_listed : (r : Option ℕ) → Found C cell r → index_of C cell < length C → r ≡ Some (index_of C cell)
+  found_listed None q h = absurd (omega arith)
+  found_listed (Some i) q h = ap (λ (x : ℕ). Some x) q.1
 
-    -- So the half that is left is known by whether the middle entry is less.
-    pub ends_half :
-        {x c r : ℕ} → x ≡ min cell 65536 → c ≡ get_or C (lo + half - 1) 0 → c < 65536 → Gain c x half r → Ends C cell (lo + r) (lo + r + (len - half))
-    ends_half {x} {c} {r} most is fits g = go (dec_lt c x)
-      where
-        go : Dec (c < x) → Ends C cell (lo + r) (lo + r + (len - half))
-        go (yes l) = rw (g.less l) (ends_up (omega arith))
-        go (no m) = let q : lo + r ≡ lo = omega (arith, g.other (omega arith)) in rw q (ends_down (omega arith))
+  -- The index of a cell is what is found, or the length.
+  pub found_index : (r : Option ℕ) → Found C cell r → unwrap_or r (length C) ≡ index_of C cell
+  found_index None q = sym q
+  found_index (Some i) q = q.1
+
+  -- Where the cell is not there, any other number stands for it.
+  pub found_other : (r : Option ℕ) (d : ℕ) → Found C cell r → length C ≡ index_of C cell → unwrap_or r d ≡ d
+  found_other None d q e = refl
+  found_other (Some i) d q e = absurd (omega (arith, q.0, q.1))
 
 -- ---- a table of indexes
 -- The entries of the corners below the i-th are written.

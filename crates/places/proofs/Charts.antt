@@ -1,14 +1,17 @@
 -- A chart that is ready: what keeps it so, and the neighbours of a corner by the table.
 -- Assumes nothing.
 use mathlib.Core.Path.{◌≡◌, sym, ◌∙◌}
-use mathlib.Core.List.{List}
-use Prim.Native.Nat.{ℕ, ◌+◌, ◌≤◌, ◌<◌}
+use mathlib.Core.List.{List, []}
+use Prim.Native.Nat.{ℕ, ◌+◌, ◌-◌, ◌≤◌, ◌<◌}
 use native.Mathlib.Omega.{arith}
-use lib.ListN.{length, get_or}
+use lib.ListN.{length, get_or, take, drop, length-take, length-drop}
+use lib.Seq.{get_or-take, get_or-drop}
+use Rattle.std.specs.Prelude.{Some}
 use Rattle.places.specs.declared.Trip.{Trip}
-use Rattle.places.specs.Columns.{Left}
+use Rattle.places.specs.Columns.{column_of, ByStart, ByGoal, Left}
 use Rattle.places.specs.Places.{index_of, Indexed, cell_at, TwoCells}
-use Rattle.places.specs.Chart.{chart, arcs_of, link_at, link_count, Ready}
+use Rattle.places.specs.Chart.{chart, arcs_of, NeighboursOf, link_at, link_count, Fair, Ready}
+use Rattle.places.proofs.Columns.{column_at}
 use Rattle.places.proofs.Cells.{index_at, cell_corner}
 use Rattle.places.proofs.Links.{link_corner, corner_arc, count_corner, arc_inside, two_cells}
 
@@ -20,6 +23,32 @@ chart_same C S E t l = rw (l.by_start, l.by_goal)
 pub ready_kept : {C S E : List ℕ} {t : Trip} {W W' : List ℕ} → Ready C S E t W → Left (t.k + 2) W W' → Ready C S E t W'
 ready_kept r l = record { fair = rw (l.by_start, l.by_goal) r.fair; room = rw l.sized r.room }
 
+-- A chart that is fair is so without the flags.
+pub fair_before : (C S E : List ℕ) (t : Trip) (W : List ℕ) → Fair (chart C S E t W) → Fair (chart C S E t [])
+fair_before C S E t W f = record {
+  corners = f.corners;
+  few = f.few;
+  ascending = f.ascending;
+  rows = f.rows;
+  within = f.within;
+  known = f.known;
+  other = f.other;
+  some_width = f.some_width;
+  width = f.width;
+  cells = f.cells;
+  small = f.small;
+  from = f.from;
+  to = f.to;
+  start_new = f.start_new;
+  goal_new = f.goal_new;
+  start_flags = λ i h l. absurd (omega (arith, none ByStart i h, l));
+  goal_flags = λ i h l. absurd (omega (arith, none ByGoal i h, l));
+  differ = f.differ;
+}
+  where
+    none : (c i : ℕ) → i < t.k → get_or (column_of (t.k + 2) [] c) i 0 ≡ 0
+    none c i h = column_at (t.k + 2) [] c i (omega arith)
+
 -- The cells of corners are below 16,384.
 pub corner_small : {C S E : List ℕ} {t : Trip} {W : List ℕ} → Ready C S E t W → (i : ℕ) → i < length C → get_or C i 0 < 16384
 corner_small {C} {S} {E} {t} r i h =
@@ -27,6 +56,14 @@ corner_small {C} {S} {E} {t} r i h =
     omega (arith, cell_corner C t i low, r.fair.small i (omega arith))
 
 -- ---- the neighbours of a corner
+-- A part of the list of neighbours lists those of a corner.
+pub neighbours_taken : (S E : List ℕ) (u : ℕ) → get_or S (u + 1) 0 ≤ length E → NeighboursOf S E u (take (get_or S (u + 1) 0 - get_or S u 0) (drop (get_or S u 0) E))
+unfolding arcs_of
+neighbours_taken S E u within = record {
+  count = rw (length-take (get_or S (u + 1) 0 - get_or S u 0) (drop (get_or S u 0) E), length-drop (get_or S u 0) E) (omega arith);
+  each = λ j h. get_or-take (get_or S (u + 1) 0 - get_or S u 0) (drop (get_or S u 0) E) j 0 h ∙ get_or-drop (get_or S u 0) E j 0;
+}
+
 -- A corner has no fewer links than neighbours.
 pub arcs_most : (C S E : List ℕ) (t : Trip) (W : List ℕ) (u : ℕ) → u < t.k → arcs_of S u ≤ link_count (chart C S E t W) u
 arcs_most C S E t W u corner = omega (arith, count_corner (chart C S E t W) u corner)
@@ -67,5 +104,5 @@ module _ {C S E : List ℕ} {t : Trip} {W Q : List ℕ} (u j : ℕ) (ready : Rea
   arc_cells = rw is_cell at (two_cells (chart C S E t W) ready.fair u (index_of C to) (omega arith) (omega (arith, known)))
 
   -- The arc is link j of u.
-  pub arc_link : index_of C to + 1 ≡ link_at (chart C S E t W) u j
+  pub arc_link : Some (index_of C to) ≡ link_at (chart C S E t W) u j
   arc_link = sym (link_corner (chart C S E t W) u j corner ∙ corner_arc (chart C S E t W) u j there)

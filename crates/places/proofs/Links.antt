@@ -2,31 +2,31 @@
 -- Assumes nothing.
 use mathlib.Core.Path.{◌≡◌, refl, sym, ◌∙◌}
 use mathlib.Core.List.{List}
-use Prim.Native.Nat.{ℕ, zero, suc, ◌+◌, ◌≤◌, ◌<◌}
-use native.Mathlib.Numerals.{add-one}
+use Prim.Native.Nat.{ℕ, ◌+◌, ◌≤◌, ◌<◌}
 use native.Mathlib.Omega.{arith}
 use native.Mathlib.Decide.{ℕ_discrete, dec_lt}
 use borrow.Author.Tests.{eq-eqb, ne_eqb, lt-ltb, le-ltb}
 use lib.ListN.{length, get_or}
+use Rattle.std.specs.Prelude.{Some, None}
 use Rattle.settling.specs.Chains.{Chain, here, step, Reachable}
 use Rattle.settling.specs.Order.{Consistent}
 use Rattle.settling.proofs.Instances.{nearest_consistent}
 use Rattle.places.specs.Places.{index_of, TwoCells}
 use Rattle.places.specs.Chart.{Chart, flagged, arcs_of, count_of, arcs, corner_link, link_at, link_count, cell, Fair, net, order}
-use Rattle.places.proofs.Cells.{index_at, ascending_once, cell_corner, cell_start, cell_goal, apart_none}
+use Rattle.places.proofs.Cells.{some_one, none_some, index_at, ascending_once, cell_corner, cell_start, cell_goal, apart_none}
 
 -- A flag that leads somewhere is set, and leads to its place.
-pub flag_some : (L : List ℕ) (i p v : ℕ) → flagged L i p ≡ v + 1 → (0 < get_or L i 0) × (p ≡ v)
+pub flag_some : (L : List ℕ) (i p v : ℕ) → flagged L i p ≡ Some v → (0 < get_or L i 0) × (p ≡ v)
 unfolding flagged
 flag_some L i p v h = go (dec_lt 0 (get_or L i 0))
   where
     go : Dec (0 < get_or L i 0) → (0 < get_or L i 0) × (p ≡ v)
-    go (yes l) = let q : p + 1 ≡ v + 1 = rw (lt-ltb 0 (get_or L i 0) l) at h in (l, omega arith)
-    go (no l) = let q : 0 ≡ v + 1 = rw (le-ltb 0 (get_or L i 0) (omega arith)) at h in absurd (omega arith)
+    go (yes l) = (l, some_one (rw (lt-ltb 0 (get_or L i 0) l) at h))
+    go (no l) = absurd (none_some (rw (le-ltb 0 (get_or L i 0) (omega arith)) at h))
 
 module _ (𝓒 : Chart) where
   -- The links of a corner begin with its neighbours.
-  pub corner_arc : (u j : ℕ) → j < arcs 𝓒 u → corner_link 𝓒 u j ≡ index_of 𝓒.corners (get_or 𝓒.neighbours (get_or 𝓒.starts u 0 + j) 0) + 1
+  pub corner_arc : (u j : ℕ) → j < arcs 𝓒 u → corner_link 𝓒 u j ≡ Some (index_of 𝓒.corners (get_or 𝓒.neighbours (get_or 𝓒.starts u 0 + j) 0))
   unfolding corner_link
   corner_arc u j h = rw (lt-ltb j (arcs 𝓒 u) h)
 
@@ -80,15 +80,14 @@ module _ (𝓒 : Chart) where
     arc_inside u j h l = (omega arith, fair.within (u + 1) (omega arith))
 
     -- A link of a corner leads to a corner, to the start or to the goal.
-    corner_leads : (u v j : ℕ) → u < 𝓒.trip.k → corner_link 𝓒 u j ≡ v + 1 → Leads u v
+    corner_leads : (u v j : ℕ) → u < 𝓒.trip.k → corner_link 𝓒 u j ≡ Some v → Leads u v
     corner_leads u v j h q = go (dec_lt j (arcs 𝓒 u)) (ℕ_discrete j (arcs 𝓒 u))
       where
         go : Dec (j < arcs 𝓒 u) → Dec (j ≡ arcs 𝓒 u) → Leads u v
         go (yes l) e =
             let a = arc_inside u j h l in
             let c = get_or 𝓒.neighbours (get_or 𝓒.starts u 0 + j) 0 in
-            let z : index_of 𝓒.corners c + 1 ≡ v + 1 = sym (corner_arc u j l) ∙ q in
-            let w : index_of 𝓒.corners c ≡ v = omega arith in
+            let w : index_of 𝓒.corners c ≡ v = some_one (sym (corner_arc u j l) ∙ q) in
             let low : index_of 𝓒.corners c < 𝓒.trip.k = fair.known (get_or 𝓒.starts u 0 + j) (omega arith) in
             let at : get_or 𝓒.corners v 0 ≡ c = rw w at (index_at 𝓒.corners c (rw fair.corners low)) in
             arc h (rw w at low) (λ same. fair.other u (get_or 𝓒.starts u 0 + j) h (omega arith) a.0 (sym at ∙ sym same))
@@ -98,7 +97,7 @@ module _ (𝓒 : Chart) where
             to_goal h (sym f.1) f.0
 
     -- Each link is one of these.
-    pub leads : (u v j : ℕ) → j < link_count 𝓒 u → link_at 𝓒 u j ≡ v + 1 → Leads u v
+    pub leads : (u v j : ℕ) → j < link_count 𝓒 u → link_at 𝓒 u j ≡ Some v → Leads u v
     leads u v j l q = go (dec_lt u 𝓒.trip.k) (ℕ_discrete u 𝓒.trip.k)
       where
         go : Dec (u < 𝓒.trip.k) → Dec (u ≡ 𝓒.trip.k) → Leads u v
@@ -133,13 +132,9 @@ module _ (𝓒 : Chart) where
     chain_used here = record { inside = omega (arith, fair.from); start = λ q. q; goal = λ q. absurd (omega (arith, fair.from)) }
     chain_used (step {u = u} {v = v} c l) = leads_used u v (leads u v l.0 l.1 l.2)
 
-    -- What a link leads to, plus one, is at most the number of places.
-    pub link_fits : (u j : ℕ) → j < link_count 𝓒 u → link_at 𝓒 u j ≤ 𝓒.trip.k + 2
-    link_fits u j h = go (link_at 𝓒 u j) refl
-      where
-        go : (x : ℕ) → link_at 𝓒 u j ≡ x → x ≤ 𝓒.trip.k + 2
-        go zero q = omega arith
-        go (suc v) q = omega (arith, (leads_used u v (leads u v j h (q ∙ sym (add-one v)))).inside)
+    -- What a link leads to is one of the places.
+    pub link_fits : (u v j : ℕ) → j < link_count 𝓒 u → link_at 𝓒 u j ≡ Some v → v < 𝓒.trip.k + 2
+    link_fits u v j h q = (leads_used u v (leads u v j h q)).inside
 
     -- Two places in use that have one cell are one place.
     pub one_cell : (x y : ℕ) → Used x → Used y → cell 𝓒 x ≡ cell 𝓒 y → x ≡ y

@@ -9,6 +9,7 @@ use native.Mathlib.Decide.{ℕ_discrete, dec_lt}
 use borrow.Author.Tests.{lt-ltb, le-ltb}
 use lib.Dec.{ltb}
 use lib.ListN.{length, get_or}
+use Rattle.std.specs.Prelude.{Option, Some, None}
 use Rattle.places.specs.declared.Trip.{Trip}
 use Rattle.places.specs.declared.Flags.{Flags}
 use Rattle.places.specs.Columns.{column_of, ByStart, ByGoal}
@@ -44,9 +45,9 @@ module _ (C S E : List ℕ) (t : Trip) (W : List ℕ) (u : ℕ) where
       go (yes h) = omega (arith, count_corner (chart C S E t W) u h, flags_corner t.k u h)
       go (no h) = omega (arith, count_end (chart C S E t W) u (omega arith), flags_end t.k u (omega arith))
 
--- One more than the place that an entry tells of, or 0.
-abbrev pub told : ℕ → ℕ → ℕ
-told entry place = cond (ltb 0 entry) (place + 1) 0
+-- The place that an entry tells of, or none.
+abbrev pub told : ℕ → ℕ → Option ℕ
+told entry place = cond (ltb 0 entry) (Some place) None
 
 module _ {C S E : List ℕ} {t : Trip} {W : List ℕ} {u : ℕ} {f : Flags} (i : ℕ) (ready : Ready C S E t W) (inside : u < t.k + 2) (is : FlagsOf t u f) (there : i < f.count) where
   -- the flag's entry

@@ -1,6 +1,6 @@
 -- The places of a trip and their links, as they are listed: corners by index, then the start, then the goal.
 -- Assumes nothing.
-use Rattle.std.specs.Prelude.{◌≡◌, cond, List, ℕ, ◌+◌, ◌*◌, ◌-◌, ◌≤◌, ◌<◌, ltb, eqb, length, get_or}
+use Rattle.std.specs.Prelude.{◌≡◌, cond, List, Option, Some, None, ℕ, ◌+◌, ◌*◌, ◌-◌, ◌≤◌, ◌<◌, ltb, eqb, length, get_or}
 use Rattle.settling.specs.Chains.{Net, wholes}
 use Rattle.settling.specs.Order.{Ranking, nearest}
 use Rattle.places.specs.declared.Trip.{Trip}
@@ -28,9 +28,9 @@ chart C S E t W = record {
   trip = t;
 }
 
--- One more than the place where the flag of corner i is set, else 0.
-unfoldable pub flagged : List ℕ → ℕ → ℕ → ℕ
-flagged L i place = cond (ltb 0 (get_or L i 0)) (place + 1) 0
+-- The place where the flag of corner i is set, else none.
+unfoldable pub flagged : List ℕ → ℕ → ℕ → Option ℕ
+flagged L i place = cond (ltb 0 (get_or L i 0)) (Some place) None
 
 -- The rows of k corners lie one after the other.
 pub record Rows (S : List ℕ) (k : ℕ) : Type 0 where
@@ -40,6 +40,11 @@ pub record Rows (S : List ℕ) (k : ℕ) : Type 0 where
 -- How many neighbours corner u has, by where the rows begin.
 unfoldable pub arcs_of : List ℕ → ℕ → ℕ
 arcs_of S u = get_or S (u + 1) 0 - get_or S u 0
+
+-- L lists the neighbours of corner u.
+pub record NeighboursOf (S E : List ℕ) (u : ℕ) (L : List ℕ) : Type 0 where
+  pub count : length L ≡ arcs_of S u
+  pub each : (j : ℕ) → j < arcs_of S u → get_or L j 0 ≡ get_or E (get_or S u 0 + j) 0
 
 -- How many links of place u there are to look at: a corner has its neighbours, the start and the goal; start and goal have each corner.
 unfoldable pub count_of : List ℕ → ℕ → ℕ → ℕ
@@ -52,14 +57,14 @@ module _ (𝓒 : Chart) where
   abbrev pub link_count : ℕ → ℕ
   link_count = count_of 𝓒.starts 𝓒.trip.k
 
-  -- Link j of corner u: one more than the place that it leads to, or 0 for none. First its neighbours, then the start, then the goal.
-  unfoldable pub corner_link : ℕ → ℕ → ℕ
+  -- Link j of corner u: the place that it leads to, or none. First its neighbours, then the start, then the goal.
+  unfoldable pub corner_link : ℕ → ℕ → Option ℕ
   corner_link u j =
-      cond (ltb j (arcs u)) (index_of 𝓒.corners (get_or 𝓒.neighbours (get_or 𝓒.starts u 0 + j) 0) + 1)
+      cond (ltb j (arcs u)) (Some (index_of 𝓒.corners (get_or 𝓒.neighbours (get_or 𝓒.starts u 0 + j) 0)))
       (cond (eqb j (arcs u)) (flagged 𝓒.by_start u 𝓒.trip.k) (flagged 𝓒.by_goal u (𝓒.trip.k + 1)))
 
   -- Link j of any place: start and goal are linked to each corner that has their flag.
-  unfoldable pub link_at : ℕ → ℕ → ℕ
+  unfoldable pub link_at : ℕ → ℕ → Option ℕ
   link_at u j =
       cond (ltb u 𝓒.trip.k) (corner_link u j) (cond (eqb u 𝓒.trip.k) (flagged 𝓒.by_start j j) (flagged 𝓒.by_goal j j))
 
@@ -92,11 +97,11 @@ module _ (𝓒 : Chart) where
     pub goal_flags : (i : ℕ) → i < 𝓒.trip.k → 0 < get_or 𝓒.by_goal i 0 → 𝓒.trip.to ≡ 𝓒.trip.k + 1
     pub differ : 𝓒.trip.start ≡ 𝓒.trip.goal → ⊥
 
--- The net: a link leads from u to v where one of u's links is one more than v, and is as long as the two cells are apart.
+-- The net: a link leads from u to v where one of u's links does, and is as long as the two cells are apart.
 abbrev pub net : Chart → Net wholes
 net 𝓒 = record {
   start = 𝓒.trip.from;
-  Link = λ u v. (j : ℕ) × (j < link_count 𝓒 u) × (link_at 𝓒 u j ≡ v + 1);
+  Link = λ u v. (j : ℕ) × (j < link_count 𝓒 u) × (link_at 𝓒 u j ≡ Some v);
   weight = λ u v. apart 𝓒.trip.w (cell 𝓒 u) (cell 𝓒 v);
 }
 

@@ -1,6 +1,6 @@
 -- Cells by number: where one stands in an ascending list, the cells of places, and how far two cells are apart.
 -- Assumes nothing.
-use Rattle.std.specs.Prelude.{◌≡◌, cond, List, [], ◌∷◌, ℕ, suc, ◌*◌, ◌/◌, ◌%◌, ◌≤◌, ◌<◌, ltb, eqb, length, get_or}
+use Rattle.std.specs.Prelude.{◌≡◌, cond, List, [], ◌∷◌, Option, MatchOption, ℕ, suc, ◌*◌, ◌/◌, ◌%◌, ◌≤◌, ◌<◌, ltb, eqb, length, get_or}
 use Rattle.lengths.specs.Lengths.{gap, octile_of}
 use Rattle.lengths.specs.Laws.{weight}
 use Rattle.places.specs.declared.Trip.{Trip}
@@ -14,16 +14,9 @@ index_of (x ∷ xs) cell = cond (eqb x cell) 0 (suc (index_of xs cell))
 abbrev pub Ascending : List ℕ → Type 0
 Ascending C = (i j : ℕ) → i < j → j < length C → get_or C i 0 < get_or C j 0
 
--- All entries below `at` are less than `cell`, and from `at` on none is.
-pub record Bound (C : List ℕ) (cell at : ℕ) : Type 0 where
-  pub within : at ≤ length C
-  pub before : (i : ℕ) → i < at → get_or C i 0 < cell
-  pub after : (i : ℕ) → at ≤ i → i < length C → cell ≤ get_or C i 0
-
--- r is `half` where c is less than x, else 0.
-pub record Gain (c x half r : ℕ) : Type 0 where
-  pub less : c < x → r ≡ half
-  pub other : x ≤ c → r ≡ 0
+-- r is the index of a cell in a list of cells, or none where it is not there.
+abbrev pub Found : List ℕ → ℕ → Option ℕ → Type 0
+Found C cell r = MatchOption r (index_of C cell ≡ length C) (λ i. (i < length C) × (i ≡ index_of C cell))
 
 -- A table gives the index of each corner by its cell.
 pub record Indexed (C Q : List ℕ) : Type 0 where

@@ -1,16 +1,22 @@
 // The places of a trip and their links. Places are the corners by their index, then the start (k) and the goal (k + 1),
 // unless they are corners themselves. What a search finds of them is in a work space that the caller lends: six columns of
 // k + 2 entries, where 0 means nothing, so that zeros are an empty search. The caller lends a table besides, which tells
-// the index of a neighbour: it serves the search and the way back.
+// the index of a neighbour: it serves the search and the way back. A place is told by its index and a cell by its number, and neither has
+// a type of its own, since NEXT and the keys of the search's tree hold the number.
 #![tactic(auto)]
 
-ghost use Rattle.std.specs.Prelude.{◌≡◌, ℕ, ◌+◌, ◌<◌, ◌≤◌, min, length, get_or};
+ghost use Rattle.std.specs.Prelude.{◌≡◌, ℕ, ◌+◌, ◌<◌, ◌≤◌, length, get_or};
 ghost use Rattle.lengths.specs.Lengths.{octile_of};
 ghost use Rattle.lengths.specs.Laws.{weight};
 ghost use Rattle.places.specs.Columns.{column_of, Inside, Put};
-ghost use Rattle.places.specs.Places.{index_of, Ascending, Bound, Gain, Indexed, cell_at, apart, TwoCells};
+ghost use Rattle.places.specs.Places.{Ascending, Found, Indexed, cell_at, apart, TwoCells};
 ghost use Rattle.places.specs.Flagging.{FlagsOf};
-ghost use Rattle.places.specs.Chart.{chart, flagged as flaggedOf, Rows, arcs_of, count_of, corner_link, link_at, link_count, Ready};
+ghost use Rattle.places.specs.Chart.{chart, flagged as flaggedOf, NeighboursOf, count_of, corner_link, link_at, link_count, Ready};
+ghost use Rattle.places.specs.Roads.{of, on, of_places};
+
+mod roads;
+
+pub use roads::Roads;
 
 // The least length known of a place, plus one; 0 for none.
 pub const LABEL: usize = 0;
@@ -24,7 +30,7 @@ pub const BY_GOAL: usize = 4;
 pub const NEXT: usize = 5;
 
 // What a search is about: the floor's width, how many corners there are, start and goal by cell number, and the
-// places that stand for them.
+// places that stand for them. A column has k + 2 entries, which is written out wherever it is needed, as the clauses write it too.
 #[derive(Clone, Copy)]
 pub struct Trip {
     pub w: usize,
@@ -35,17 +41,9 @@ pub struct Trip {
     pub to: usize,
 }
 
-// A number of 16 bits as an index.
-pub fn wide(x: u16) -> usize
-    ensures same { result ≡ x }
-    ensures bounded { result < 65536 }
-{
-    x as usize
-}
-
 // ---- the work space
 
-// Entry i of a column of n entries. Columns are numbers, since two parts of one slice cannot be lent at once.
+// Entry i of a column of n entries. Columns are numbers: one list is lent for all of them, and `flags_of` steps across columns.
 pub fn get(work: &[u32], n: usize, column: usize, i: usize) -> u32
     requires { Inside n work.now column i }
     ensures { result ≡ get_or (column_of n work.now column) i 0 }
@@ -64,17 +62,17 @@ pub fn put(work: &mut [u32], n: usize, column: usize, i: usize, value: u32)
 // ---- cells
 
 // The cell of place i.
-pub fn cell_of(corners: &[u16], t: Trip, i: usize) -> usize
-    requires { length corners.now ≡ t.k }
-    ensures { result ≡ cell_at corners.now t i }
+pub fn cell_of(roads: &Roads, i: usize) -> usize
+    ensures { result ≡ of_places cell_at roads.now i }
 {
+    let t = &roads.trip;
     if i < t.k {
-        return wide(corners[i]);
+        usize::from(roads.corners[i])
+    } else if i == t.k {
+        t.start
+    } else {
+        t.goal
     }
-    if i == t.k {
-        return t.start;
-    }
-    t.goal
 }
 
 // The octile distance for two offsets as one whole number.
@@ -83,10 +81,7 @@ fn weigh(dx: usize, dy: usize) -> u32
     ensures weight { result ≡ weight (octile_of dx dy) }
     ensures bounded { result ≤ 29017722 }
 {
-    if dx < dy {
-        return (80782 * (dy - dx) + 114243 * dx) as u32;
-    }
-    (80782 * (dx - dy) + 114243 * dy) as u32
+    (80782 * dx.abs_diff(dy) + 114243 * dx.min(dy)) as u32
 }
 
 // How far two cells are apart.
@@ -100,56 +95,13 @@ pub fn leg(w: usize, a: usize, b: usize) -> u32
     weigh(dx, dy)
 }
 
-// A cell number as one that fits 17 bits: all from 65536 on come after every number of 16 bits.
-fn capped(cell: usize) -> usize
-    ensures { result ≡ min cell 65536 }
-{
-    if cell < 65536 {
-        return cell;
-    }
-    65536
-}
-
-// `half` where c is less than x, else 0. It is reckoned, since a branch would be foretold wrongly every other time; and
-// by 17 bits, since the compiler knows the carry of 16 for a comparison, and makes a branch of it.
-fn gain(c: usize, x: usize, half: usize) -> usize
-    requires { (c < 65536) × (x ≤ 65536) }
-    ensures { Gain c x half result }
-{
-    half * ((131071 + x - c) / 131072)
-}
-
-// The index of the first cell that is not less than `cell`: it is among the `len` from `lo` on, or next after them.
-fn lower_bound(cells: &[u16], cell: usize) -> usize
+// The index of a cell in an ascending list of cells, where it is there.
+pub fn find(cells: &[u16], cell: usize) -> Option<usize>
     requires { Ascending cells.now }
-    ensures { Bound cells.now cell result }
+    ensures { Found cells.now cell result }
 {
-    let x = capped(cell);
-    let mut lo: usize = 0;
-    let mut len = cells.len();
-    while 0 < len {
-        let half = (len + 1) / 2;
-        let c = wide(cells[lo + half - 1]);
-        lo += gain(c, x, half);
-        len -= half;
-    }
-    lo
-}
-
-// The index of a cell in an ascending list of cells, or the list's length where it is not there.
-pub fn find(cells: &[u16], cell: usize) -> usize
-    requires { Ascending cells.now }
-    ensures { result ≡ index_of cells.now cell }
-{
-    let at = lower_bound(cells, cell);
-    if cells.len() <= at {
-        return cells.len();
-    }
-    let c = wide(cells[at]);
-    if c == cell {
-        return at;
-    }
-    cells.len()
+    let x = u16::try_from(cell).ok()?;
+    cells.binary_search(&x).ok()
 }
 
 // Writes the index of each corner to its cell's entry of a table.
@@ -161,51 +113,42 @@ pub fn index_corners(corners: &[u16], table: &mut [u16])
     ensures indexed { Indexed corners.now table.new }
     ensures sized { length table.new ≡ length table.old }
 {
-    let mut i: usize = 0;
-    while i < corners.len() {
-        let cell = wide(corners[i]);
+    for (i, corner) in corners.iter().enumerate() {
+        let cell = usize::from(*corner);
         table[cell] = i as u16;
-        i += 1;
     }
 }
 
 // ---- links
 
-// How many neighbours corner u has.
-pub fn arc_count(starts: &[u16], u: usize) -> usize
-    requires inside { u + 1 < length starts.now }
-    requires rising { get_or starts.now u 0 ≤ get_or starts.now (u + 1) 0 }
-    ensures arcs { result ≡ arcs_of starts.now u }
-    ensures bounded { result < 65536 }
+// The neighbours of corner u.
+pub fn neighbours_of<'a>(roads: &Roads<'a>, u: usize) -> &'a [u16]
+    requires { u < roads.now.trip.k }
+    ensures { NeighboursOf roads.now.starts.now roads.now.neighbours.now u result.now }
 {
-    let first = wide(starts[u]);
-    let last = wide(starts[u + 1]);
-    last - first
+    let first = usize::from(roads.starts[u]);
+    let last = usize::from(roads.starts[u + 1]);
+    &roads.neighbours[first..last]
 }
 
-// One more than the place where the flag of corner i in the column is set, else 0.
-fn flagged(work: &[u32], n: usize, column: usize, i: usize, place: usize) -> usize
-    requires inside { Inside n work.now column i }
-    requires small { place ≤ 65536 }
+// The place where the flag of corner i in the column is set, else none.
+fn flagged(work: &[u32], n: usize, column: usize, i: usize, place: usize) -> Option<usize>
+    requires { Inside n work.now column i }
     ensures { result ≡ flaggedOf (column_of n work.now column) i place }
 {
-    let f = get(work, n, column, i);
-    if 0 < f {
-        return place + 1;
-    }
-    0
+    (get(work, n, column, i) > 0).then_some(place)
 }
 
 // How many links of place u there are to look at: a corner has its neighbours, the start and the goal; start and goal
 // have each corner.
-pub fn link_count(starts: &[u16], k: usize, u: usize) -> usize
-    requires { Rows starts.now k }
-    ensures { result ≡ count_of starts.now k u }
+pub fn link_count(roads: &Roads, u: usize) -> usize
+    ensures { result ≡ count_of roads.now.starts.now roads.now.trip.k u }
 {
-    if u < k {
-        return arc_count(starts, u) + 2;
+    if u < roads.trip.k {
+        neighbours_of(roads, u).len() + 2
+    } else {
+        roads.trip.k
     }
-    k
 }
 
 // The flags that tell of links of a place: `count` of them, the first at entry `at` of the work space, each `apart` entries after the
@@ -224,73 +167,55 @@ pub fn flags_of(t: Trip, u: usize) -> Flags
     requires { (t.k ≤ 2048) × (u < t.k + 2) }
     ensures { FlagsOf t u result }
 {
-    let n = t.k + 2;
-    if u < t.k {
+    let k = t.k;
+    let n = k + 2;
+    if u < k {
         Flags {
             at: BY_START * n + u,
             apart: n,
-            to: t.k,
+            to: k,
             count: 2,
         }
     } else {
         Flags {
-            at: (BY_START + u - t.k) * n,
+            at: (BY_START + u - k) * n,
             apart: 1,
             to: 0,
-            count: t.k,
+            count: k,
         }
     }
 }
 
 // Link j of corner u: a neighbour, whose index the table tells, or the start, or the goal.
-fn corner_link(
-    corners: &[u16],
-    starts: &[u16],
-    neighbours: &[u16],
-    t: Trip,
-    table: &[u16],
-    work: &[u32],
-    u: usize,
-    j: usize,
-) -> usize
-    requires ready { Ready corners.now starts.now neighbours.now t work.now }
-    requires corner { u < t.k }
-    requires indexed { Indexed corners.now table.now }
-    ensures { result ≡ corner_link (chart corners.now starts.now neighbours.now t work.now) u j }
+fn corner_link(roads: &Roads, work: &[u32], u: usize, j: usize) -> Option<usize>
+    requires ready { on Ready roads.now work.now }
+    requires corner { u < roads.now.trip.k }
+    ensures { result ≡ corner_link (of chart roads.now work.now) u j }
 {
-    let count = arc_count(starts, u);
-    if j < count {
-        let at = wide(starts[u]) + j;
-        let c = wide(neighbours[at]);
-        return wide(table[c]) + 1;
+    let k = roads.trip.k;
+    let near = neighbours_of(roads, u);
+    if j < near.len() {
+        let c = usize::from(near[j]);
+        Some(usize::from(roads.table[c]))
+    } else if j == near.len() {
+        flagged(work, k + 2, BY_START, u, k)
+    } else {
+        flagged(work, k + 2, BY_GOAL, u, k + 1)
     }
-    if j == count {
-        return flagged(work, t.k + 2, BY_START, u, t.k);
-    }
-    flagged(work, t.k + 2, BY_GOAL, u, t.k + 1)
 }
 
-// Link j of place u: one more than the place that it leads to, or 0 for none.
-pub fn link_at(
-    corners: &[u16],
-    starts: &[u16],
-    neighbours: &[u16],
-    t: Trip,
-    table: &[u16],
-    work: &[u32],
-    u: usize,
-    j: usize,
-) -> usize
-    requires ready { Ready corners.now starts.now neighbours.now t work.now }
-    requires there { j < link_count (chart corners.now starts.now neighbours.now t work.now) u }
-    requires indexed { Indexed corners.now table.now }
-    ensures { result ≡ link_at (chart corners.now starts.now neighbours.now t work.now) u j }
+// Link j of place u: the place that it leads to, or none.
+pub fn link_at(roads: &Roads, work: &[u32], u: usize, j: usize) -> Option<usize>
+    requires ready { on Ready roads.now work.now }
+    requires there { j < link_count (of chart roads.now work.now) u }
+    ensures { result ≡ link_at (of chart roads.now work.now) u j }
 {
-    if u < t.k {
-        return corner_link(corners, starts, neighbours, t, table, work, u, j);
+    let k = roads.trip.k;
+    if u < k {
+        corner_link(roads, work, u, j)
+    } else if u == k {
+        flagged(work, k + 2, BY_START, j, j)
+    } else {
+        flagged(work, k + 2, BY_GOAL, j, j)
     }
-    if u == t.k {
-        return flagged(work, t.k + 2, BY_START, j, j);
-    }
-    flagged(work, t.k + 2, BY_GOAL, j, j)
 }

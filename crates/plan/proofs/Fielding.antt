@@ -1,20 +1,15 @@
 -- The eight fields of one turning point, one after the other: what they show stands in its place. Assumes nothing.
-use Prim.Native.Nat.{ℕ, ◌+◌, ◌-◌, ◌≤◌, ◌<◌}
-use mathlib.Core.List.{List, []}
-use mathlib.Core.Path.{◌≡◌, sym, ◌∙◌, subst}
+use Prim.Native.Nat.{ℕ, ◌+◌, ◌≤◌, ◌<◌}
+use mathlib.Core.List.{List}
+use mathlib.Core.Path.{◌≡◌, ◌∙◌}
 use native.Mathlib.Decide.{ℕ_discrete}
 use native.Mathlib.Omega.{arith}
-use lib.ListN.{length}
 use Rattle.corners.specs.Lists.{part}
-use Rattle.plan.specs.Rising.{In, Rising}
+use Rattle.plan.specs.Rising.{In}
 use Rattle.fields.specs.Fields.{ShownIn}
 use Rattle.plan.specs.Linking.{Finding, Grown, FieldSwept, OneLinked}
-use Rattle.plan.specs.declared.Filled.TheVariants.{To, NoRoom}
-use Rattle.plan.proofs.Growing.{grown_self, grown_trans}
-
--- nothing stands between a place and itself
-pub part_none : (xs : List ℕ) (from : ℕ) → part xs from from ≡ []
-part_none xs from = let e : from - from ≡ 0 = omega arith in rw e
+use Rattle.std.specs.Prelude.{Some, None}
+use Rattle.plan.proofs.Growing.{grown_trans}
 
 module _ (w h : ℕ) (words : List ℕ) (cell : ℕ) (list₀ : List ℕ) (from : ℕ) where
   -- what the first fields show stands in the list from `from` up to `end`
@@ -24,25 +19,9 @@ module _ (w h : ℕ) (words : List ℕ) (cell : ℕ) (list₀ : List ℕ) (from 
     pub finding : Finding w h words cell list from end
     pub passed : (g n t : ℕ) → g < field → ShownIn w h words cell g n t → In t (part list from end)
 
-  -- before the first field
-  pub fielded_begin : from ≤ length list₀ → from ≤ 32768 → Fielded list₀ from 0
-  fielded_begin inside few =
-      record {
-        in_fields = omega arith;
-        grown = grown_self list₀ from from;
-        finding = record {
-          after = omega arith;
-          inside = inside;
-          few = few;
-          rising = subst Rising (sym (part_none list₀ from)) tt;
-          seen = λ t i. absurd (subst (In t) (part_none list₀ from) i);
-        };
-        passed = λ g n t l i. absurd (omega arith);
-      }
-
   module _ (list : List ℕ) (end field : ℕ) (a : Fielded list end field) (more : field < 8) (exit : List ℕ) where
     -- after one field more
-    pub fielded_next : (k : ℕ) → FieldSwept w h words cell list from end field (To k) exit → Fielded exit k (field + 1)
+    pub fielded_next : (k : ℕ) → FieldSwept w h words cell list from end field (Some k) exit → Fielded exit k (field + 1)
     fielded_next k s =
         record {
           in_fields = omega arith;
@@ -56,9 +35,9 @@ module _ (w h : ℕ) (words : List ℕ) (cell : ℕ) (list₀ : List ℕ) (from 
         by g n t l i (no d) = s.0.kept t (a.passed g n t (omega (arith, d)) i)
 
     -- where a field finds no room
-    pub fielded_crowded : FieldSwept w h words cell list from end field NoRoom exit → OneLinked w h words cell list₀ from NoRoom exit
+    pub fielded_crowded : FieldSwept w h words cell list from end field None exit → OneLinked w h words cell list₀ from None exit
     fielded_crowded s = (rw a.grown.as_long at s.0, s.1 ∙ a.grown.as_long)
 
   -- after the last field all that is seen stands in the list
-  pub fielded_end : (list : List ℕ) (end field : ℕ) → Fielded list end field → 8 ≤ field → OneLinked w h words cell list₀ from (To end) list
+  pub fielded_end : (list : List ℕ) (end field : ℕ) → Fielded list end field → 8 ≤ field → OneLinked w h words cell list₀ from (Some end) list
   fielded_end list end field a n = (a.grown, a.finding, λ t s. a.passed s.field s.row t (let f = s.field_in in omega arith) s.shown)

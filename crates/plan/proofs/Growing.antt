@@ -1,5 +1,5 @@
 -- How the neighbours of one turning point grow in the list, as a sweep shows them. Assumes nothing.
-use Prim.Native.Nat.{ℕ, zero, suc, ◌+◌, ◌-◌, ◌≤◌, ◌<◌}
+use Prim.Native.Nat.{ℕ, ◌+◌, ◌-◌, ◌≤◌, ◌<◌}
 use mathlib.Core.List.{List, ◌++◌}
 use mathlib.Core.Logic.{inl, inr, ⊎_elim}
 use mathlib.Core.Path.{◌≡◌, refl, sym, ◌∙◌, ap, subst}
@@ -12,8 +12,7 @@ use Rattle.plan.specs.Rising.{In, insertion}
 use Rattle.plan.specs.Inserting.{spliced, Inserted}
 use Rattle.plan.specs.Linking.{PutShown, Finding, Crowded, Grown}
 use Rattle.fields.specs.Fields.{Seen}
-use Rattle.plan.specs.declared.Filled.{Filled}
-use Rattle.plan.specs.declared.Filled.TheVariants.{To, NoRoom}
+use Rattle.std.specs.Prelude.{Option, Some, None}
 use Rattle.plan.proofs.Insertions.{part_length}
 use Rattle.plan.proofs.Risings.{rising_fewer, in_inserted, still_in, was_in, rising_inserted}
 
@@ -54,7 +53,7 @@ module _ (list : List ℕ) (from : ℕ) (xs : List ℕ) (l : from + length xs �
       ∙ take_at xs (drop (from + length xs) list) (from + length xs - from) (omega arith)
 
 -- ---- what an insertion leaves
-module _ (list : List ℕ) (from m t k : ℕ) (exit : List ℕ) (l : from ≤ m) (i : Inserted list from m t (To k) exit) where
+module _ (list : List ℕ) (from m t k : ℕ) (exit : List ℕ) (l : from ≤ m) (i : Inserted list from m t (Some k) exit) where
   -- there is room for the part with t in its place
   room : from + length (insertion t (part list from m)) ≤ length list
   room = let e = i.0 in let r = i.1 in omega arith
@@ -102,14 +101,14 @@ module _ (w h : ℕ) (words : List ℕ) (s : ℕ) (list : List ℕ) (from m : �
       let a = f.after in
       omega arith
 
-  -- the list of what was found with one more that is seen from s
-  pub record Put (shown k : ℕ) (exit : List ℕ) : Type 0 where
+  -- the list of what was found with what was shown, if anything was
+  pub record Put (shown : Option ℕ) (k : ℕ) (exit : List ℕ) : Type 0 where
     pub finding : Finding w h words s exit from k
     pub grown : Grown list from m k exit
-    pub there : (t : ℕ) → shown ≡ suc t → In t (part exit from k)
+    pub there : (t : ℕ) → shown ≡ Some t → In t (part exit from k)
 
   -- what is seen from s and was put in its place stands among those found
-  put_in : (t k : ℕ) (exit : List ℕ) → Seen w h words s t → Inserted list from m t (To k) exit → Put (suc t) k exit
+  put_in : (t k : ℕ) (exit : List ℕ) → Seen w h words s t → Inserted list from m t (Some k) exit → Put (Some t) k exit
   put_in t k exit seen i =
       let whole = inserted_part list from m t k exit f.after i in
       let later : m ≤ k = rw i.0 (put_later t) in
@@ -122,29 +121,22 @@ module _ (w h : ℕ) (words : List ℕ) (s : ℕ) (list : List ℕ) (from m : �
           seen = λ u p. ⊎_elim (λ e. subst (Seen w h words s) (sym e) seen) (f.seen u) (was_in u t _ (subst (In u) whole p));
         };
         grown = inserted_grown list from m t k exit f.after i later;
-        there = λ u e. let g : u ≡ t = omega arith in rw (g, whole) (in_inserted t _);
+        there = λ u e. let g : u ≡ t = cc in rw (g, whole) (in_inserted t _);
       }
 
-  -- a row that shows nothing leaves all as it is
-  put_none : (k : ℕ) (exit : List ℕ) → To k ≡ To m → exit ≡ list → Put 0 k exit
-  put_none k exit e g =
-      let n : k ≡ m = cc in
-      rw (n, g) (record { finding = f; grown = grown_self list from m; there = λ t z. absurd (omega arith) })
-
   -- so what a row shows, if it shows anything, stands among those found
-  pub put_shown : (shown k : ℕ) (exit : List ℕ) → ((t : ℕ) → shown ≡ suc t → Seen w h words s t) → PutShown list from m shown (To k) exit → Put shown k exit
-  put_shown zero k exit seen p = put_none k exit p.0 p.1
-  put_shown (suc t) k exit seen p = put_in t k exit (seen t refl) p
+  pub put_shown : (shown : Option ℕ) (k : ℕ) (exit : List ℕ) → ((t : ℕ) → shown ≡ Some t → Seen w h words s t) → PutShown list from m shown (Some k) exit → Put shown k exit
+  put_shown None k exit seen p =
+      let n : k ≡ m = cc in
+      let z : (t : ℕ) → None ≡ Some t → In t (part list from m) = λ t e. cc in
+      rw (n, p.1) (record { finding = f; grown = grown_self list from m; there = z })
+  put_shown (Some t) k exit seen p = put_in t k exit (seen t refl) p
 
   -- where there is no room, there is more than there is room for
-  pub crowded : (shown : ℕ) (exit : List ℕ) → ((t : ℕ) → shown ≡ suc t → Seen w h words s t) → PutShown list from m shown NoRoom exit →
+  pub crowded : (shown : Option ℕ) (exit : List ℕ) → ((t : ℕ) → shown ≡ Some t → Seen w h words s t) → PutShown list from m shown None exit →
       Crowded w h words s (length list) from × (length exit ≡ length list)
-  crowded zero exit seen p = absurd (let z : ◌≡◌ {A = ℕ} 0 1 = nowhere p.0 in omega arith)
-    where
-      -- to have no room is not to be filled up to m
-      nowhere : NoRoom ≡ To m → ◌≡◌ {A = ℕ} 0 1
-      nowhere e = cc
-  crowded (suc t) exit seen p = (
+  crowded None exit seen p = let e : ◌≡◌ {A = Option ℕ} None (Some m) = p.0 in cc
+  crowded (Some t) exit seen p = (
     record {
       found = insertion t (part list from m);
       rising = rising_inserted t _ f.rising;
@@ -153,13 +145,3 @@ module _ (w h : ℕ) (words : List ℕ) (s : ℕ) (list : List ℕ) (from m : �
     },
     ap length p.2,
   )
-
--- where nothing was shown, the list as it was is the outcome
-pub put_zero : (list : List ℕ) (from m shown : ℕ) → shown ≡ 0 → PutShown list from m shown (To m) list
-put_zero list from m zero e = (refl, refl)
-put_zero list from m (suc t) e = absurd (omega arith)
-
--- where something was shown, what putting it in its place comes to is the outcome
-pub put_suc : (list : List ℕ) (from m shown : ℕ) (r : Filled) (exit : List ℕ) → ¬ (shown ≡ 0) → Inserted list from m (shown - 1) r exit → PutShown list from m shown r exit
-put_suc list from m zero r exit n i = absurd (n refl)
-put_suc list from m (suc t) r exit n i = let e : suc t - 1 ≡ t = omega arith in rw e at i

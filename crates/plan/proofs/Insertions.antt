@@ -1,4 +1,4 @@
--- A number put in its place, by the place that a search found. Assumes nothing.
+-- A number put in its place among ascending entries, by the place where it belongs. Assumes nothing.
 use Prim.Native.Nat.{ℕ, zero, suc, ◌+◌, ◌-◌, ◌≤◌, ◌<◌}
 use mathlib.Core.Bool.{false}
 use mathlib.Core.List.{List, [], ◌∷◌, ◌++◌, append_assoc}
@@ -7,13 +7,15 @@ use mathlib.Core.Path.{◌≡◌, refl, sym, ◌∙◌, ap, ap₂}
 use native.Mathlib.Nat.{suc-sub-suc, sub-zero}
 use native.Mathlib.Omega.{arith}
 use lib.Dec.{ltb, eqb}
-use lib.ListN.{length, get_or, take, drop, set, length-append, length-take, length-drop, take-append-drop, get_or-append}
-use lib.Seq.{take-nil, take-take, take-add, drop-drop, get_or-take, get_or-drop, take-suc, set_at, length-take-le, drop-cons}
+use lib.ListN.{length, get_or, take, drop, set, length-append, length-take, length-drop, take-append-drop}
+use lib.Seq.{take-nil, take-take, take-add, drop-drop, get_or-take, get_or-drop, take-suc, set_at, length-take-le}
 use borrow.Author.Tests.{lt-ltb, le-ltb, eq-eqb, ne_eqb}
 use Rattle.corners.specs.Lists.{part}
-use Rattle.plan.specs.Rising.{insertion}
-use Rattle.plan.specs.Inserting.{Found, spliced, Inserted}
-use Rattle.plan.specs.declared.Filled.TheVariants.{To, NoRoom}
+use Rattle.std.specs.Prelude.{Some, None}
+use Rattle.std.specs.List.{copy_within}
+use Rattle.plan.specs.Rising.{Rising, insertion}
+use Rattle.plan.specs.Inserting.{spliced, Inserted}
+use Rattle.plan.proofs.Risings.{rising_later}
 
 -- where t stands at place j behind smaller entries, it is there already
 pub insertion_there : (t : ℕ) (xs : List ℕ) (j : ℕ) → j < length xs → ((i : ℕ) → i < j → get_or xs i 0 < t) → get_or xs j 0 ≡ t →
@@ -72,149 +74,89 @@ module _ (list : List ℕ) (from m : ℕ) (l : from ≤ m) (k : m ≤ length lis
       whole : take m list ++ drop m list ≡ list
       whole = take-append-drop m list
 
-  module _ (t i : ℕ) (f : Found list from m t i) where
-    -- the place in the part
-    in_part : i - from ≤ length (part list from m)
-    in_part = let a = f.after in let b = f.before in rw part_length (omega arith)
-
-    -- the entries of the part before that place are below t
-    smaller : (j : ℕ) → j < i - from → get_or (part list from m) j 0 < t
-    smaller j h =
-        let b = f.before in
-        rw (part_at j (omega arith)) (f.below (from + j) (omega arith) (omega arith))
-
-    -- at that place the part has the list's entry i
-    here : i < m → get_or (part list from m) (i - from) 0 ≡ get_or list i 0
-    here h = let a = f.after in part_at (i - from) (omega arith) ∙ ap (λ (n : ℕ). get_or list n 0) (omega arith)
-
-    -- if t stands there already, putting it in its place changes nothing
-    pub found_there : i < m → get_or list i 0 ≡ t → insertion t (part list from m) ≡ part list from m
-    found_there h e = insertion_there t (part list from m) (i - from) (rw part_length (let a = f.after in omega arith)) smaller (here h ∙ e)
-
-    -- if it does not, it goes between what stands before that place and what stands from there on
-    pub found_new : (i < m → ¬ (get_or list i 0 ≡ t)) → insertion t (part list from m) ≡ take (i - from) (part list from m) ++ (t ∷ drop (i - from) (part list from m))
-    found_new n = insertion_new t (part list from m) (i - from) in_part smaller larger
-      where
-        -- what stands at that place, if anything does, is above t
-        larger : i - from < length (part list from m) → t < get_or (part list from m) (i - from) 0
-        larger h =
-            let a = f.after in
-            let i-in : i < m = omega (arith, part_length) in
-            let u : t ≤ get_or list i 0 = f.not_below i-in in
-            rw (here i-in) (omega (arith, n i-in))
+  -- t belongs at place `at` of the part: behind smaller entries and before larger ones
+  module _ (t at : ℕ) (in_part : at ≤ length (part list from m)) (below : (j : ℕ) → j < at → get_or (part list from m) j 0 < t)
+      (above : (j : ℕ) → at ≤ j → j < length (part list from m) → t < get_or (part list from m) j 0) where
+    -- it goes between them
+    found_new : insertion t (part list from m) ≡ take at (part list from m) ++ (t ∷ drop at (part list from m))
+    found_new = insertion_new t (part list from m) at in_part below (λ h. above at (omega arith) h)
 
     -- it makes the part one longer
-    pub new_length : (i < m → ¬ (get_or list i 0 ≡ t)) → suc m ≡ from + length (insertion t (part list from m))
-    new_length n =
+    new_length : suc m ≡ from + length (insertion t (part list from m))
+    new_length =
         let p = part_length in
         let e : length (insertion t (part list from m)) ≡ suc (m - from) =
-        ap length (found_new n) ∙ length-append (take (i - from) (part list from m)) _
-        ∙ (let a = length-take (i - from) (part list from m) in let b = length-drop (i - from) (part list from m) in let c = in_part in omega arith) in
+        ap length found_new ∙ length-append (take at (part list from m)) _
+        ∙ (let a = length-take at (part list from m) in let b = length-drop at (part list from m) in let c = in_part in omega arith) in
         omega arith
 
-    -- the entries from i on moved one place on, and t put at i: the part with t in its place
-    pub put_there : (i < m → ¬ (get_or list i 0 ≡ t)) → m < length list →
-        set (take (suc i) list ++ (part list i m ++ drop (suc m) list)) i t ≡ spliced list from (insertion t (part list from m))
-    put_there n h =
-        ap (λ (xs : List ℕ). set xs i t) opened
-        ∙ set_at (take i list) (get_or list i 0) (part list i m ++ drop (suc m) list) t i (length-take-le i list (let b = f.before in omega arith))
+    -- the place in the list
+    place_in : from + at ≤ m
+    place_in = omega (arith, part_length, in_part)
+
+    -- the entries from there on moved one place on, and t put there: the part with t in its place
+    put_there : m < length list →
+        set (take (suc (from + at)) list ++ (part list (from + at) m ++ drop (suc m) list)) (from + at) t ≡ spliced list from (insertion t (part list from m))
+    put_there h =
+        ap (λ (xs : List ℕ). set xs (from + at) t) opened
+        ∙ set_at (take (from + at) list) (get_or list (from + at) 0) (part list (from + at) m ++ drop (suc m) list) t (from + at)
+        (length-take-le (from + at) list (omega (arith, place_in)))
         ∙ sym closed
       where
-        -- once the entries are moved, entry i still stands at i, before those that were moved
-        opened : take (suc i) list ++ (part list i m ++ drop (suc m) list) ≡ take i list ++ (get_or list i 0 ∷ (part list i m ++ drop (suc m) list))
+        -- once the entries are moved, the first of them still stands before those that were moved
+        opened : take (suc (from + at)) list ++ (part list (from + at) m ++ drop (suc m) list)
+            ≡ take (from + at) list ++ (get_or list (from + at) 0 ∷ (part list (from + at) m ++ drop (suc m) list))
         opened =
-            rw (take-suc list i 0 (let b = f.before in omega arith))
-            (append_assoc (take i list) (get_or list i 0 ∷ []) (part list i m ++ drop (suc m) list))
+            rw (take-suc list (from + at) 0 (omega (arith, place_in)))
+            (append_assoc (take (from + at) list) (get_or list (from + at) 0 ∷ []) (part list (from + at) m ++ drop (suc m) list))
 
-        -- counted from `from`, the place in the part is i
-        from_i : from + (i - from) ≡ i
-        from_i = let a = f.after in omega arith
+        -- what stands before the part, and the part's entries before the place, are the list's entries before it
+        before_place : take from list ++ take at (part list from m) ≡ take (from + at) list
+        before_place =
+            ap (λ (xs : List ℕ). take from list ++ xs) (take-take at (m - from) (drop from list) (omega (arith, place_in)))
+            ∙ sym (take-add from at list)
 
-        -- what stands before the part, and the part's entries before i, are the list's entries before i
-        before_i : take from list ++ take (i - from) (part list from m) ≡ take i list
-        before_i =
-            ap (λ (xs : List ℕ). take from list ++ xs) (take-take (i - from) (m - from) (drop from list) (let b = f.before in omega arith))
-            ∙ sym (take-add from (i - from) list) ∙ ap (λ (n : ℕ). take n list) from_i
+        -- the part without them is the part from that place on
+        behind_place : drop at (part list from m) ≡ part list (from + at) m
+        behind_place =
+            drop_take at (m - from) (drop from list)
+            ∙ ap₂ (λ (n : ℕ) (xs : List ℕ). take n xs) (let e : (m - from) - at ≡ m - (from + at) = omega arith in e) (drop-drop at from list)
 
-        -- from i on the part has as many entries as m is beyond i
-        less_from : (m - from) - (i - from) ≡ m - i
-        less_from = let a = f.after in let b = f.before in omega arith
-
-        -- the part without its entries before i is the part from i on
-        behind_i : drop (i - from) (part list from m) ≡ part list i m
-        behind_i =
-            drop_take (i - from) (m - from) (drop from list)
-            ∙ ap₂ (λ (n : ℕ) (xs : List ℕ). take n xs) less_from
-            (drop-drop (i - from) from list ∙ ap (λ (n : ℕ). drop n list) from_i)
-
-        -- the list with t in its part is what stands before i, then t, what was moved, and the rest
-        closed : spliced list from (insertion t (part list from m)) ≡ take i list ++ (t ∷ (part list i m ++ drop (suc m) list))
+        -- the list with t in its part is what stands before the place, then t, what was moved, and the rest
+        closed : spliced list from (insertion t (part list from m)) ≡ take (from + at) list ++ (t ∷ (part list (from + at) m ++ drop (suc m) list))
         closed =
-            ap (λ (n : ℕ). take from list ++ (insertion t (part list from m) ++ drop n list)) (sym (new_length n))
-            ∙ ap (λ (xs : List ℕ). take from list ++ (xs ++ drop (suc m) list)) (found_new n)
-            ∙ ap (λ (xs : List ℕ). take from list ++ xs) (append_assoc (take (i - from) (part list from m)) (t ∷ drop (i - from) (part list from m)) (drop (suc m) list))
-            ∙ sym (append_assoc (take from list) (take (i - from) (part list from m)) (t ∷ drop (i - from) (part list from m) ++ drop (suc m) list))
-            ∙ ap₂ (λ (xs ys : List ℕ). xs ++ (t ∷ (ys ++ drop (suc m) list))) before_i behind_i
+            ap (λ (n : ℕ). take from list ++ (insertion t (part list from m) ++ drop n list)) (sym new_length)
+            ∙ ap (λ (xs : List ℕ). take from list ++ (xs ++ drop (suc m) list)) found_new
+            ∙ ap (λ (xs : List ℕ). take from list ++ xs) (append_assoc (take at (part list from m)) (t ∷ drop at (part list from m)) (drop (suc m) list))
+            ∙ sym (append_assoc (take from list) (take at (part list from m)) (t ∷ drop at (part list from m) ++ drop (suc m) list))
+            ∙ ap₂ (λ (xs ys : List ℕ). xs ++ (t ∷ (ys ++ drop (suc m) list))) before_place behind_place
 
--- ---- moving entries one place on
--- at the beginning nothing moved
-pub shift_none : (xs : List ℕ) (to : ℕ) → xs ≡ take (suc to) xs ++ (part xs to to ++ drop (suc to) xs)
-shift_none xs to = let e : to - to ≡ 0 = omega arith in rw e (sym (take-append-drop (suc to) xs))
+    -- if there is no room for it, the list is left as it is
+    pub inserted_full : (length list ≤ m) ⊎ (32768 ≤ m) → Inserted list from m t None list
+    inserted_full h = (new_length, h, refl)
 
--- the entry before place j is moved to j
-pub shift_step : (xs rest : List ℕ) (j to : ℕ) → 0 < j → j ≤ to → to < length xs →
-    set (take (suc j) xs ++ (part xs j to ++ rest)) j (get_or (take (suc j) xs ++ (part xs j to ++ rest)) (j - 1) 0) ≡ take (suc (j - 1)) xs ++ (part xs (j - 1) to ++ rest)
-shift_step xs rest zero to p l m = absurd (omega arith)
-shift_step xs rest (suc i) to p l m =
-    let e : suc i - 1 ≡ i = omega arith in
-    rw e
-    (ap₂ (λ (ys : List ℕ) (a : ℕ). set ys (suc i) a) opened value
-    ∙ set_at (take (suc i) xs) (get_or xs (suc i) 0) (part xs (suc i) to ++ rest) (get_or xs i 0) (suc i) (length-take-le (suc i) xs (omega arith))
-    ∙ sym (ap (λ (ys : List ℕ). take (suc i) xs ++ (ys ++ rest)) moved))
-  where
-    -- the entry at j, which is to be written over, stands before those that were moved
-    opened : take (suc (suc i)) xs ++ (part xs (suc i) to ++ rest) ≡ take (suc i) xs ++ (get_or xs (suc i) 0 ∷ (part xs (suc i) to ++ rest))
-    opened = rw (take-suc xs (suc i) 0 (omega arith)) (append_assoc (take (suc i) xs) (get_or xs (suc i) 0 ∷ []) (part xs (suc i) to ++ rest))
+    -- if there is, the entries from that place on are moved and t is put there
+    pub inserted_new : m < length list → m < 32768 → (moved : List ℕ) →
+        moved ≡ copy_within list (from + at) m (from + at + 1) →
+        Inserted list from m t (Some (m + 1)) (set moved (from + at) t)
+    inserted_new h few moved e =
+        let one : from + at + 1 ≡ suc (from + at) = omega arith in
+        let all : from + at + 1 + (m - (from + at)) ≡ suc m = omega (arith, place_in) in (
+          (let z : m + 1 ≡ suc m = omega arith in z ∙ new_length),
+          (omega arith),
+          inr (omega arith),
+          ap (λ (xs : List ℕ). set xs (from + at) t) (rw (append_assoc, all, one) at e) ∙ put_there h,
+        )
 
-    -- the entry before place j is as it was
-    value : get_or (take (suc (suc i)) xs ++ (part xs (suc i) to ++ rest)) i 0 ≡ get_or xs i 0
-    value =
-        get_or-append (take (suc (suc i)) xs) (part xs (suc i) to ++ rest) 0 i (rw (length-take-le (suc (suc i)) xs (omega arith)) (omega arith))
-        ∙ get_or-take (suc (suc i)) xs i 0 (omega arith)
-
-    -- the entries from the one before j on are that one and those from j on
-    moved : part xs i to ≡ get_or xs i 0 ∷ part xs (suc i) to
-    moved = let e : to - i ≡ suc (to - suc i) = omega arith in rw (e, drop-cons xs i 0 (omega arith))
-
--- ---- what putting t in its place does, by what was found
-module _ (list : List ℕ) (from m t i : ℕ) (l : from ≤ m) (k : m ≤ length list) (f : Found list from m t i) where
-  -- if t stood there already, the list is left as it is
-  pub inserted_there : (i < m) × (get_or list i 0 ≡ t) → Inserted list from m t (To m) list
-  inserted_there e =
-      let same : insertion t (part list from m) ≡ part list from m = found_there list from m l k t i f e.0 e.1 in
-      let p = part_length list from m l k in (
+  -- if t stands in the part, which ascends, the list is left as it is
+  pub inserted_there : (t at : ℕ) → Rising (part list from m) → at < length (part list from m) → get_or (part list from m) at 0 ≡ t →
+      Inserted list from m t (Some m) list
+  inserted_there t at rising h e =
+      let same : insertion t (part list from m) ≡ part list from m =
+      insertion_there t (part list from m) at h (λ j b. rw e at (rising_later (part list from m) rising j at b h)) e in
+      let p = part_length in (
         (let z : m ≡ from + length (part list from m) = omega arith in z ∙ ap (λ (xs : List ℕ). from + length xs) (sym same)),
         k,
         inl refl,
-        sym (spliced_self list from m l k) ∙ ap (spliced list from) (sym same),
+        sym spliced_self ∙ ap (spliced list from) (sym same),
       )
-
-  module _ (new : ¬ ((i < m) × (get_or list i 0 ≡ t))) where
-    -- entry i, if it is in the part, is not t
-    apart : i < m → ¬ (get_or list i 0 ≡ t)
-    apart h e = new (h, e)
-
-    -- if t is new and there is no room, the list is left as it is
-    pub inserted_full : (length list ≤ m) ⊎ (32768 ≤ m) → Inserted list from m t NoRoom list
-    inserted_full h = (new_length list from m l k t i f apart, h, refl)
-
-    -- if t is new and there is room, the entries from i on are moved and t is put at i
-    pub inserted_new : m < length list → m < 32768 → (shifted : List ℕ) → shifted ≡ take (suc i) list ++ (part list i m ++ drop (suc m) list) →
-        Inserted list from m t (To (m + 1)) (set shifted i t)
-    inserted_new h few shifted e =
-        let n = new_length list from m l k t i f apart in (
-          (let z : m + 1 ≡ suc m = omega arith in z ∙ n),
-          (omega arith),
-          inr (omega arith),
-          ap (λ (xs : List ℕ). set xs i t) e ∙ put_there list from m l k t i f apart h,
-        )

@@ -6,6 +6,7 @@ pub mod Pickings
 pub mod Links
 pub mod Insertions
 pub mod Parts
+pub mod Searches
 pub mod Growing
 pub mod Sweeping
 pub mod Fielding

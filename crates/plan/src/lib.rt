@@ -11,9 +11,11 @@ pub const MAX_CORNERS: usize = 2048;
 
 pub const MAX_ARCS: usize = 32768;
 
-// Where the neighbours that were written end, or that the list has no room for them or they are more than 32,768.
+// The four lists of a plan, or those that are lent for one: clearances, turning points, starts and neighbours.
 #[derive(Clone, Copy)]
-pub enum Filled {
-    To(usize),
-    NoRoom,
+pub struct Plan<'a> {
+    pub clear: &'a [u8],
+    pub corners: &'a [u16],
+    pub starts: &'a [u16],
+    pub neighbours: &'a [u16],
 }

@@ -1,110 +1,85 @@
 // Starts and neighbours: written.
-ghost use Rattle.std.specs.Prelude.{◌≡◌, ◌+◌, ◌*◌, ◌<◌, ◌≤◌, length};
-ghost use Rattle.floor.specs.Words.{Floor};
+ghost use Rattle.std.specs.Prelude.{IfSome, ◌≡◌, ◌+◌, ◌*◌, ◌<◌, ◌≤◌, length};
+ghost use Rattle.floor.specs.Lent.{of, on};
 ghost use Rattle.corners.specs.Corners.{corner_cells};
+ghost use Rattle.corners.specs.Lists.{part};
 ghost use Rattle.marks.specs.Marks.{Cleared};
+ghost use Rattle.plan.specs.Rising.{Rising};
 ghost use Rattle.plan.specs.Linking.{PutShown, Finding, FieldSwept, OneLinked, LinkOutcome};
 ghost use Rattle.fields.specs.Fields.{Sweepable};
 
-use super::{Filled, inserting};
+use super::inserting;
+use floor::Floor;
 
-// Puts what a row shows, one more than a cell or 0 for nothing, in its place.
-fn put_shown(list: &mut [u16], from: usize, m: usize, shown: usize) -> Filled
-    requires { (from ≤ m) × ((m ≤ length list.old) × (shown ≤ 65536)) }
+// Puts the cell that a row shows, if it shows one, in its place. It takes the whole list, `from` and `m`, as `insert`.
+fn put_shown(list: &mut [u16], from: usize, m: usize, shown: Option<usize>) -> Option<usize>
+    requires place { (from ≤ m) × (m ≤ length list.old) }
+    requires rising { Rising (part list.old from m) }
+    requires fits { IfSome shown (λ cell. cell < 65536) }
     ensures { PutShown list.old from m shown result list.new }
 {
-    if shown == 0 {
-        return Filled::To(m);
+    match shown {
+        Some(cell) => inserting::insert(list, from, m, cell as u16),
+        None => Some(m),
     }
-    inserting::insert(list, from, m, (shown - 1) as u16)
 }
 
-// Puts the turning points that a field from `cell` shows in their places among those from `from` up to m.
+// Puts the turning points that a field from `cell` shows in their places among those from `from` up to m, and takes the list as `insert`.
 fn link_field(
-    words: &[u64],
-    w: usize,
-    h: usize,
+    floor: &Floor,
     clear: &[u8],
     list: &mut [u16],
     from: usize,
     m: usize,
     cell: usize,
     field: usize,
-) -> Filled
-    requires { Sweepable w h words.now cell clear.now × (Finding w h words.now cell list.old from m × (field < 8)) }
-    ensures { FieldSwept w h words.now cell list.old from m field result list.new }
+) -> Option<usize>
+    requires { on Sweepable floor.now.grid cell clear.now × (on Finding floor.now.grid cell list.old from m × (field < 8)) }
+    ensures { on FieldSwept floor.now.grid cell list.old from m field result list.new }
 {
-    let sx = cell % w;
-    let sy = cell / w;
     let mut end = m;
-    let mut row = 0;
-    let mut reach = 255;
-    while reach < fields::ENDED {
-        let e = fields::pass_row(words, w, h, clear, sx, sy, field, row, reach);
-        let put = put_shown(list, from, end, e.shown);
-        let Filled::To(k) = put else {
-            return Filled::NoRoom;
-        };
-        end = k;
-        row += 1;
-        reach = e.reach;
+    for shown in fields::rows(floor, clear, cell, field) {
+        end = put_shown(list, from, end, shown)?;
     }
-    Filled::To(end)
+    Some(end)
 }
 
-// Writes the neighbours of `cell` from entry `from` on, ascending.
+// Writes the neighbours of `cell` from entry `from` on, ascending, and takes the list as `insert`.
 pub fn link_one(
-    words: &[u64],
-    w: usize,
-    h: usize,
+    floor: &Floor,
     clear: &[u8],
     list: &mut [u16],
     from: usize,
     cell: usize,
-) -> Filled
-    requires { Sweepable w h words.now cell clear.now × ((from ≤ length list.old) × (from ≤ 32768)) }
-    ensures { OneLinked w h words.now cell list.old from result list.new }
+) -> Option<usize>
+    requires { on Sweepable floor.now.grid cell clear.now × ((from ≤ length list.old) × (from ≤ 32768)) }
+    ensures { on OneLinked floor.now.grid cell list.old from result list.new }
 {
     let mut end = from;
-    let mut field = 0;
-    while field < 8 {
-        let linked = link_field(words, w, h, clear, list, from, end, cell, field);
-        let Filled::To(k) = linked else {
-            return Filled::NoRoom;
-        };
-        end = k;
-        field += 1;
+    for field in 0..8 {
+        end = link_field(floor, clear, list, from, end, cell, field)?;
     }
-    Filled::To(end)
+    Some(end)
 }
 
 // Writes starts and neighbours of all turning points.
 pub fn link(
-    words: &[u64],
-    w: usize,
-    h: usize,
+    floor: &Floor,
     clear: &[u8],
     corners: &[u16],
     starts: &mut [u16],
     list: &mut [u16],
-) -> Filled
-    requires floor { Floor w h words.now }
-    requires clear { (4 * (w * h) ≤ length clear.now) × Cleared w h words.now clear.now }
-    requires corners { corners.now ≡ corner_cells w h words.now }
+) -> Option<usize>
+    requires clear { (4 * (floor.now.grid.w * floor.now.grid.h) ≤ length clear.now) × on Cleared floor.now.grid clear.now }
+    requires corners { corners.now ≡ of corner_cells floor.now.grid }
     requires starts { length corners.now < length starts.old }
-    ensures { LinkOutcome w h words.now corners.now starts.old list.old result starts.new list.new }
+    ensures { on LinkOutcome floor.now.grid corners.now starts.old list.old result starts.new list.new }
 {
     starts[0] = 0;
     let mut m = 0;
-    let mut i = 0;
-    while i < corners.len() {
-        let linked = link_one(words, w, h, clear, list, m, corners[i] as usize);
-        let Filled::To(k) = linked else {
-            return Filled::NoRoom;
-        };
-        m = k;
-        i += 1;
-        starts[i] = m as u16;
+    for (i, cell) in corners.iter().enumerate() {
+        m = link_one(floor, clear, list, m, usize::from(*cell))?;
+        starts[i + 1] = m as u16;
     }
-    Filled::To(m)
+    Some(m)
 }

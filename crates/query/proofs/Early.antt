@@ -8,6 +8,7 @@ use lib.ListN.{length}
 use Rattle.floor.specs.Board.{at, Free}
 use Rattle.floor.specs.Refusals.{Refusal, FirstOf, Numbered, refuse}
 use Rattle.floor.specs.Words.{Floor, floor_rows, board}
+use Rattle.floor.specs.Codes.{number}
 use Rattle.floor.proofs.Accepted.{accepted}
 use Rattle.floor.proofs.Tables.{first_here, first_later}
 use Rattle.ground.proofs.Logic.{true_or_false}
@@ -41,11 +42,6 @@ module _ (w h : ℕ) (words : List ℕ) (p : Lists) where
   pub own_plan : FirstOf (floor_rows w h words) 0 → Fits w h words p → Judged w h words p 0
   unfolding eighth
   own_plan f own = record { number = first_later (floor_rows w h words) eighth 0 floor_numbered f (inr (λ n. n own, refl)); own = λ e. own }
-
-  -- a floor with another's
-  pub other_plan : FirstOf (floor_rows w h words) 0 → ¬ (Fits w h words p) → Judged w h words p 8
-  unfolding eighth
-  other_plan f other = record { number = first_later (floor_rows w h words) eighth 8 floor_numbered f (inl (other, refl)); own = λ e. absurd (omega arith) }
 
   -- an accepted plan's floor is accepted
   pub judged_floor : Judged w h words p 0 → Floor w h words

@@ -1,21 +1,26 @@
 // One question, whatever is lent: the refusals 1 to 11, then the answer.
 #![tactic(auto)]
 
-ghost use Rattle.floor.specs.Words.{Floor};
+ghost use Rattle.floor.specs.Lent.{on};
+ghost use Rattle.floor.specs.Codes.{number};
+ghost use Rattle.plan.specs.Lent.{lists_of};
 ghost use Rattle.plan.specs.Plan.{Fits};
+ghost use Rattle.answering.specs.Lent.{asked, asked_of};
 ghost use Rattle.query.specs.Query.{QueryOutcome};
 ghost use Rattle.query.specs.Refusing.{CodeOnly};
 
+use floor::{Cell, Floor, Refusal};
+use plan::Plan;
 use telling::Answer;
 
 mod refusing;
 
 // The answer that gives a refusal's number.
-fn refused(code: u32) -> Answer
-    ensures { CodeOnly code result }
+fn refused(refusal: Refusal) -> Answer
+    ensures { CodeOnly (number refusal) result }
 {
     Answer {
-        code,
+        code: refusal as u32,
         straight: 0,
         diagonal: 0,
         cells: 0,
@@ -23,58 +28,40 @@ fn refused(code: u32) -> Answer
     }
 }
 
-// What follows the checks of floor and plan, for callers that have made them: the refusals 9 to 11, then the answer.
+// What follows the checks of floor and plan, for callers that have made them: the refusals 9 to 11, then the answer. What is
+// read, what is asked and what is written stay six arguments: the lists that are written are lent on one by one.
 pub fn ask(
-    words: &[u64],
-    w: usize,
-    h: usize,
-    clear: &[u8],
-    corners: &[u16],
-    starts: &[u16],
-    neighbours: &[u16],
-    sx: usize,
-    sy: usize,
-    gx: usize,
-    gy: usize,
+    floor: &Floor,
+    plan: &Plan,
+    start: Cell,
+    goal: Cell,
     route: &mut [u16],
     work: &mut [u32],
 ) -> Answer
-    requires floor { Floor w h words.now }
-    requires plan { Fits w h words.now (record { clear = clear.now; corners = corners.now; starts = starts.now; neighbours = neighbours.now }) }
-    ensures { QueryOutcome (record { w = w; h = h; words = words.now; plan = record { clear = clear.now; corners = corners.now; starts = starts.now; neighbours = neighbours.now }; sx = sx; sy = sy; gx = gx; gy = gy; route = route.old; work = work.old }) result route.new work.new }
+    requires { on Fits floor.now.grid (lists_of plan.now) }
+    ensures { QueryOutcome (asked floor.now.grid (lists_of plan.now) start goal route.old work.old) result route.new work.new }
 {
-    let code = refusing::ends_refusal(words, w, h, sx, sy, gx, gy, corners.len(), work.len());
-    if code != 0 {
-        return refused(code);
+    match refusing::check_ends(floor, start, goal, plan.corners.len(), work.len()) {
+        Ok(()) => answering::answer(floor, plan, start, goal, route, work),
+        Err(refusal) => refused(refusal),
     }
-    answering::answer(
-        words, w, h, clear, corners, starts, neighbours, sx, sy, gx, gy, route, work,
-    )
 }
 
-// Answers one question, whatever is lent: the refusals of floor and plan first.
+// Answers one question, whatever is lent: the refusals of floor and plan first. It takes words, w and h, which are not a floor yet.
 pub fn query(
     words: &[u64],
     w: usize,
     h: usize,
-    clear: &[u8],
-    corners: &[u16],
-    starts: &[u16],
-    neighbours: &[u16],
-    sx: usize,
-    sy: usize,
-    gx: usize,
-    gy: usize,
+    plan: &Plan,
+    start: Cell,
+    goal: Cell,
     route: &mut [u16],
     work: &mut [u32],
 ) -> Answer
-    ensures { QueryOutcome (record { w = w; h = h; words = words.now; plan = record { clear = clear.now; corners = corners.now; starts = starts.now; neighbours = neighbours.now }; sx = sx; sy = sy; gx = gx; gy = gy; route = route.old; work = work.old }) result route.new work.new }
+    ensures { QueryOutcome (asked_of w h words.now (lists_of plan.now) start goal route.old work.old) result route.new work.new }
 {
-    let code = refusing::plan_refusal(words, w, h, clear, corners, starts, neighbours);
-    if code != 0 {
-        return refused(code);
+    match refusing::check_plan(words, w, h, plan) {
+        Ok(floor) => ask(&floor, plan, start, goal, route, work),
+        Err(refusal) => refused(refusal),
     }
-    ask(
-        words, w, h, clear, corners, starts, neighbours, sx, sy, gx, gy, route, work,
-    )
 }

@@ -1,69 +1,59 @@
 // The refusals 1 to 11 of a query.
 ghost use Rattle.floor.specs.Refusals.{FirstOf, Tells};
-ghost use Rattle.floor.specs.Words.{Floor};
+ghost use Rattle.floor.specs.Lent.{on, IsLent};
+ghost use Rattle.floor.specs.Codes.{code_of};
+ghost use Rattle.plan.specs.Lent.{lists_of};
 ghost use Rattle.query.specs.Query.{Shut};
 ghost use Rattle.query.specs.Refusing.{Judged, end_rows};
-ghost use Rattle.std.specs.Prelude.{◌≤◌};
+ghost use Rattle.std.specs.Prelude.{◌≤◌, IfOk};
 
-// 0, or the first of the refusals 1, 2, 3 and 8 that applies.
-pub fn plan_refusal(
-    words: &[u64],
+use floor::{Cell, Floor, Refusal};
+use plan::Plan;
+
+// The floor, or the first of the refusals 1, 2, 3 and 8 that applies. It takes words, w and h, which are not a floor yet.
+pub fn check_plan<'a>(
+    words: &'a [u64],
     w: usize,
     h: usize,
-    clear: &[u8],
-    corners: &[u16],
-    starts: &[u16],
-    neighbours: &[u16],
-) -> u32
-    ensures { Judged w h words.now (record { clear = clear.now; corners = corners.now; starts = starts.now; neighbours = neighbours.now }) result }
+    plan: &Plan,
+) -> Result<Floor<'a>, Refusal>
+    ensures code { Judged w h words.now (lists_of plan.now) (code_of result) }
+    ensures same { IfOk result (λ floor. IsLent w h words.now floor.grid) }
 {
-    let bad = floor::check_floor(words, w, h);
-    if bad != 0 {
-        return bad;
-    }
-    if matching::matches(words, w, h, clear, corners, starts, neighbours) {
-        0
+    let floor = floor::check_floor(words, w, h)?;
+    if matching::matches(&floor, plan) {
+        Ok(floor)
     } else {
-        8
+        Err(Refusal::Plan)
     }
 }
 
-// Whether cell (x, y) is outside or blocked.
-pub fn shut(words: &[u64], w: usize, h: usize, x: usize, y: usize) -> bool
-    requires { Floor w h words.now }
-    ensures { Tells (Shut w h words.now x y) result }
+// Whether a cell is outside or blocked.
+pub fn shut(floor: &Floor, cell: Cell) -> bool
+    ensures { Tells (on Shut floor.now.grid cell.x cell.y) result }
 {
-    if w <= x {
-        return true;
-    }
-    if h <= y {
-        return true;
-    }
-    !floor::free_at(words, w, h, x + 1, y + 1)
+    floor.grid.w <= cell.x || floor.grid.h <= cell.y || !floor.grid.free_at(cell.x + 1, cell.y + 1)
 }
 
-// 0, or the first of the refusals 9, 10 and 11 that applies, where `room` work entries are lent.
-pub fn ends_refusal(
-    words: &[u64],
-    w: usize,
-    h: usize,
-    sx: usize,
-    sy: usize,
-    gx: usize,
-    gy: usize,
+// The first of the refusals 9, 10 and 11 that applies, where `room` work entries are lent.
+pub fn check_ends(
+    floor: &Floor,
+    start: Cell,
+    goal: Cell,
     corners: usize,
     room: usize,
-) -> u32
-    requires { Floor w h words.now × (corners ≤ 2048) }
-    ensures { FirstOf (end_rows w h words.now sx sy gx gy corners room) result }
+) -> Result<(), Refusal>
+    requires { corners ≤ 2048 }
+    ensures { FirstOf (on end_rows floor.now.grid start.x start.y goal.x goal.y corners room) (code_of result) }
 {
-    if shut(words, w, h, sx, sy) {
-        9
-    } else if shut(words, w, h, gx, gy) {
-        10
-    } else if room < 6 * (corners + 2) {
-        11
-    } else {
-        0
+    if shut(floor, start) {
+        return Err(Refusal::Start);
     }
+    if shut(floor, goal) {
+        return Err(Refusal::Goal);
+    }
+    if room < 6 * (corners + 2) {
+        return Err(Refusal::Work);
+    }
+    Ok(())
 }

@@ -15,13 +15,13 @@ next_bit : (n k : ℕ) → bit_clear n (suc k) ≡ bit_clear (n / 2) k
 next_bit n k = ap (λ m. eqb (m % 2) 0) (ap (λ j. n / 2 ^ j) (sym (one-add k)) ∙ sym (shr-shr n 1 k))
 
 -- one bit more, below the others
-pub bits_more : (f : ℕ → Bool) (word b k n : ℕ) → b < 2 → eqb b 0 ≡ f k → ((i : ℕ) → i < n → bit_clear word i ≡ f (suc k + i)) → (i : ℕ) → i < suc n → bit_clear (word * 2 + b) i ≡ f (k + i)
+pub bits_more : (f : ℕ → Bool) (word b k n : ℕ) → b < 2 → eqb b 0 ≡ f k → ((i : ℕ) → i < n → bit_clear word i ≡ f (suc k + i)) → (i : ℕ) → i < suc n → bit_clear (2 * word + b) i ≡ f (k + i)
 bits_more f word b k n l e h zero i =
-    let m : (word * 2 + b) / 1 % 2 ≡ b = omega arith in
+    let m : (2 * word + b) / 1 % 2 ≡ b = omega arith in
     ap (λ x. eqb x 0) m ∙ e ∙ ap f (omega arith)
 bits_more f word b k n l e h (suc j) i =
-    let m : (word * 2 + b) / 2 ≡ word = omega arith in
-    next_bit (word * 2 + b) j ∙ ap (λ x. bit_clear x j) m ∙ h j (omega arith) ∙ ap f (omega arith)
+    let m : (2 * word + b) / 2 ≡ word = omega arith in
+    next_bit (2 * word + b) j ∙ ap (λ x. bit_clear x j) m ∙ h j (omega arith) ∙ ap f (omega arith)
 
 -- the lowest bits
 same_low : (a b : ℕ) → a < 2 → b < 2 → eqb a 0 ≡ eqb b 0 → a ≡ b

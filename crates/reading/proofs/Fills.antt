@@ -1,7 +1,7 @@
 -- The floor's words while a map is read, row by row. Assumes nothing.
 use Prim.Native.Nat.{ℕ, ◌+◌, ◌-◌, ◌*◌, ◌/◌, ◌%◌, ◌<◌, ◌≤◌}
 use mathlib.Core.List.{List, ◌++◌}
-use mathlib.Core.Path.{◌≡◌, refl, sym, ap, ◌∙◌}
+use mathlib.Core.Path.{◌≡◌, refl, sym, ap, ap₂, ◌∙◌}
 use native.Mathlib.Nat.{suc-mul}
 use native.Mathlib.Numerals.{add-one}
 use native.Mathlib.Omega.{arith}
@@ -60,15 +60,15 @@ module _ (w y : ℕ) (words row : List ℕ) (long : length row ≡ row_words w) 
       (row_word w put k (x / 64) j ∙ put_before (k * row_words w + x / 64) (omega (arith, row_ends k y (row_words w) l)) ∙ sym (row_word w words k (x / 64) j))
 
 -- one row more
-pub filled_more : (text : List ℕ) (from w y : ℕ) (before words row : List ℕ) → length row ≡ row_words w → y * row_words w + row_words w ≤ length words
-    → RowAt text (row_place from w y) w → DrawsRow text (row_place from w y) w row → Filled text from w y before words
+filled_more : (text : List ℕ) (from w y : ℕ) (before words row bytes : List ℕ) → length row ≡ row_words w → y * row_words w + row_words w ≤ length words
+    → RowAt text (row_place from w y) w → bytes ≡ take w (drop (row_place from w y) text) → DrawsRow bytes row → Filled text from w y before words
     → Filled text from w (y + 1) before (take (y * row_words w) words ++ (row ++ drop (y * row_words w + row_words w) words))
-filled_more text from w y before words row long room fits draws f =
+filled_more text from w y before words row bytes long room fits cut draws f =
     record {
       fit = below_more (λ k. RowAt text (row_place from w k) w) y f.fit fits;
       drawn = below_more (λ k. (r : RowAt text (row_place from w k) w) (x : ℕ) → x < 64 * row_words w → bit_free (row_of w now k) x ≡ free_letter w r.letters x) y
           (λ k l r x m. put_other w y words row long room k x l m ∙ f.drawn k l r x m)
-          (λ r x m. ap (λ t. bit_free t x) (put_row w y words row long room) ∙ draws x (rw long m) ∙ letters_same text (row_place from w y) w r x);
+          (λ r x m. ap (λ t. bit_free t x) (put_row w y words row long room) ∙ draws x (rw long m) ∙ letters_same text (row_place from w y) w bytes cut r x);
       long = put_long w y words row long room ∙ f.long;
       rest = rw next (put_after w y words row long room ∙ after);
     }
@@ -84,13 +84,14 @@ filled_more text from w y before words row long room fits draws f =
 
 -- one row more, as the code puts it
 pub filled_put : (text : List ℕ) (from w y n at : ℕ) (before words row : List ℕ) → n ≡ row_words w → at ≡ row_place from w y → y * n + n ≤ length words
-    → length row ≡ length (take (y * n + n - y * n) (drop (y * n) words)) → RowAt text at w → DrawsRow text at w row → Filled text from w y before words
+    → length row ≡ length (take (y * n + n - y * n) (drop (y * n) words)) → RowAt text at w → DrawsRow (take (at + w - at) (drop at text)) row → Filled text from w y before words
     → Filled text from w (y + 1) before (put_mid (y * n) (y * n + n - y * n) words row)
 filled_put text from w y n at before words row e p room kept fits draws f =
     let long : length row ≡ row_words w = kept ∙ simp (length-take, length-drop) (omega arith) in
+    let cut : take (at + w - at) (drop at text) ≡ take w (drop (row_place from w y) text) = ap₂ (λ k l. take k (drop l text)) (omega arith) p in
     rw (Post-is (y * n) (y * n + n) words (omega arith), e)
-    (filled_more text from w y before words row long (rw e at room) (rw p at fits) (rw p at draws) f)
+    (filled_more text from w y before words row _ long (rw e at room) (rw p at fits) cut draws f)
 
 -- where the next row begins
-pub next_place : (from w y at : ℕ) → at ≡ row_place from w y → at + w + 1 ≡ row_place from w (y + 1)
+pub next_place : (from w y at : ℕ) → at ≡ row_place from w y → at + (w + 1) ≡ row_place from w (y + 1)
 next_place from w y at e = rw (add-one y) (omega (arith, suc-mul y (w + 1)))

@@ -17,7 +17,7 @@ module _ (text : List ℕ) (at : ℕ) where
   number_starts d i e h = at_byte text at at (at_none text at) i (digit h (ap (λ b. b ∷ []) e))
 
   -- and so is a positive number so far with one digit more
-  pub number_more : (next v d : ℕ) → At (Decimal v) text at next → ¬ (v ≡ 0) → next < length text → get_or text next 0 ≡ 48 + d → d < 10 → At (Decimal (v * 10 + d)) text at (next + 1)
+  pub number_more : (next v d : ℕ) → At (Decimal v) text at next → ¬ (v ≡ 0) → next < length text → get_or text next 0 ≡ 48 + d → d < 10 → At (Decimal (10 * v + d)) text at (next + 1)
   number_more next v d a z i e h = at_byte text at next a i (more v d a.line (omega (arith, z)) h a.is (omega arith) (ap (λ b. a.line ++ b ∷ []) e))
 
   -- with its end after it, it is a number that ends

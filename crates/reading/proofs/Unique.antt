@@ -8,12 +8,10 @@ use native.Mathlib.Omega.{arith}
 use lib.ListN.{length, get_or, take, drop, length-take, length-drop, take-append-drop}
 use lib.Seq.{take-add, ext_get_or}
 use Rattle.floor.specs.Words.{row_words, row_of, bit_clear}
+use Rattle.std.specs.Prelude.{Option, Some, None, Result, Ok, Err}
 use Rattle.reading.specs.declared.Two.{Two}
-use Rattle.reading.specs.declared.Two.TheVariants as two
 use Rattle.reading.specs.declared.Four.{Four}
-use Rattle.reading.specs.declared.Four.TheVariants as four
-use Rattle.reading.specs.declared.Rows.{Rows}
-use Rattle.reading.specs.declared.Rows.TheVariants.{All, Bad}
+use Rattle.reading.specs.declared.Misfit.{Misfit}
 use Rattle.reading.specs.Lines.{TwoRead, FourRead}
 use Rattle.reading.specs.Maps.{Filled, RowsRead}
 use Rattle.reading.proofs.Lines.{pair_once, four_once}
@@ -21,32 +19,34 @@ use Rattle.reading.proofs.Bits.{same_bits}
 use Rattle.reading.proofs.Fills.{row_word}
 
 -- a reader of two numbers gives back one thing
-pub two_unique : (text : List ℕ) (at : ℕ) (r s : Two) → TwoRead text at r → TwoRead text at s → r ≡ s
-two_unique text at (two.Line a b next) (two.Line c d other) p q = let e = pair_once 10 (omega arith) text at (a, b) (c, d) next other p q in ap₂ (λ z n. two.Line z.0 z.1 n) e.0 e.1
-two_unique text at (two.Line a b next) two.None p q = absurd (q a b next p)
-two_unique text at two.None (two.Line a b next) p q = absurd (p a b next q)
-two_unique text at two.None two.None p q = refl
+pub two_unique : (text : List ℕ) (at : ℕ) (r s : Option Two) → TwoRead text at r → TwoRead text at s → r ≡ s
+two_unique text at (Some a) (Some b) p q =
+    let e = pair_once 10 (omega arith) text at (a.first, a.second) (b.first, b.second) a.next b.next p q in
+    ap₂ (λ (z : ℕ × ℕ) n. Some (record { first = z.0; second = z.1; next = n })) e.0 e.1
+two_unique text at (Some a) None p q = absurd (q a.first a.second a.next p)
+two_unique text at None (Some b) p q = absurd (p b.first b.second b.next q)
+two_unique text at None None p q = refl
 
 -- a reader of four numbers gives back one thing
-pub four_unique : (text : List ℕ) (at : ℕ) (r s : Four) → FourRead text at r → FourRead text at s → r ≡ s
-four_unique text at (four.Line x y u v next) (four.Line x' y' u' v' other) p q =
-    let e = four_once text at ((x, y), (u, v)) ((x', y'), (u', v')) next other p q in
-    ap₂ (λ z n. four.Line z.0.0 z.0.1 z.1.0 z.1.1 n) e.0 e.1
-four_unique text at (four.Line x y u v next) four.None p q = absurd (q x y u v next p)
-four_unique text at four.None (four.Line x y u v next) p q = absurd (p x y u v next q)
-four_unique text at four.None four.None p q = refl
+pub four_unique : (text : List ℕ) (at : ℕ) (r s : Option Four) → FourRead text at r → FourRead text at s → r ≡ s
+four_unique text at (Some a) (Some b) p q =
+    let e = four_once text at ((a.start.x, a.start.y), (a.goal.x, a.goal.y)) ((b.start.x, b.start.y), (b.goal.x, b.goal.y)) a.next b.next p q in
+    ap₂ (λ (z : (ℕ × ℕ) × (ℕ × ℕ)) n. Some (record { start = record { x = z.0.0; y = z.0.1 }; goal = record { x = z.1.0; y = z.1.1 }; next = n })) e.0 e.1
+four_unique text at (Some a) None p q = absurd (q a.start.x a.start.y a.goal.x a.goal.y a.next p)
+four_unique text at None (Some b) p q = absurd (p b.start.x b.start.y b.goal.x b.goal.y b.next q)
+four_unique text at None None p q = refl
 
 -- the first row that does not fit is one, and then not all fit
-pub rows_unique : (text : List ℕ) (from w h : ℕ) (before after other : List ℕ) (r s : Rows) → RowsRead text from w h before after r → RowsRead text from w h before other s → r ≡ s
-rows_unique text from w h before after other (All n) (All m) p q = ap All (p.0 ∙ sym q.0)
-rows_unique text from w h before after other (All n) (Bad y) p q = absurd (q.1 (p.1.fit y q.0))
-rows_unique text from w h before after other (Bad y) (All n) p q = absurd (p.1 (q.1.fit y p.0))
-rows_unique text from w h before after other (Bad y) (Bad z) p q = by (dec_lt y z) (dec_lt z y)
+pub rows_unique : (text : List ℕ) (from w h : ℕ) (before after other : List ℕ) (r s : Result ℕ Misfit) → RowsRead text from w h before after r → RowsRead text from w h before other s → r ≡ s
+rows_unique text from w h before after other (Ok n) (Ok m) p q = ap Ok (p.0 ∙ sym q.0)
+rows_unique text from w h before after other (Ok n) (Err b) p q = absurd (q.1 (p.1.fit b.row q.0))
+rows_unique text from w h before after other (Err a) (Ok m) p q = absurd (p.1 (q.1.fit a.row p.0))
+rows_unique text from w h before after other (Err a) (Err b) p q = by (dec_lt a.row b.row) (dec_lt b.row a.row)
   where
-    by : Dec (y < z) → Dec (z < y) → Bad y ≡ Bad z
-    by (yes l) d = absurd (p.1 (q.2.fit y l))
-    by (no l) (yes m) = absurd (q.1 (p.2.fit z m))
-    by (no l) (no m) = ap Bad (omega (arith, l, m))
+    by : Dec (a.row < b.row) → Dec (b.row < a.row) → ◌≡◌ {A = Result ℕ Misfit} (Err a) (Err b)
+    by (yes l) d = absurd (p.1 (q.2.fit a.row l))
+    by (no l) (yes m) = absurd (q.1 (p.2.fit b.row m))
+    by (no l) (no m) = ap (λ (y : ℕ). Err (record { row = y })) (omega (arith, l, m))
 
 -- each entry is a word
 abbrev pub Words : List ℕ → Type 0
@@ -78,17 +78,17 @@ module _ (text : List ℕ) (from w n : ℕ) (before after other : List ℕ) (f :
       ∙ take-append-drop (n * row_words w) other
 
 -- how many rows have been read
-abbrev read_count : ℕ → Rows → ℕ
-read_count h (All n) = h
-read_count h (Bad y) = y
+abbrev read_count : ℕ → Result ℕ Misfit → ℕ
+read_count h (Ok n) = h
+read_count h (Err bad) = bad.row
 
 -- these rows stand in the words
-filled_of : (text : List ℕ) (from w h : ℕ) (before after : List ℕ) (r : Rows) → RowsRead text from w h before after r → Filled text from w (read_count h r) before after
-filled_of text from w h before after (All n) p = p.1
-filled_of text from w h before after (Bad y) p = p.2
+filled_of : (text : List ℕ) (from w h : ℕ) (before after : List ℕ) (r : Result ℕ Misfit) → RowsRead text from w h before after r → Filled text from w (read_count h r) before after
+filled_of text from w h before after (Ok n) p = p.1
+filled_of text from w h before after (Err bad) p = p.2
 
 -- a reader of rows gives back one thing and leaves one list
-pub read_rows_unique : (text : List ℕ) (from w h : ℕ) (before after other : List ℕ) (r s : Rows) → Words after → Words other
+pub read_rows_unique : (text : List ℕ) (from w h : ℕ) (before after other : List ℕ) (r s : Result ℕ Misfit) → Words after → Words other
     → RowsRead text from w h before after r → RowsRead text from w h before other s → (r ≡ s) × (after ≡ other)
 read_rows_unique text from w h before after other r s u v p q =
     let e = rows_unique text from w h before after other r s p q in

@@ -1,12 +1,9 @@
 -- What a line of numbers means (01, "Floorwalk: the program and its listing"): decimals from 0 to 999, one space apart, and a newline.
 -- A space is the byte 32, a newline the byte 10.
-use Rattle.std.specs.Prelude.{ℕ, ◌+◌, ◌<◌, ◌≤◌, ◌≡◌, List, [], ◌∷◌, ◌++◌, length, get_or, drop}
+use Rattle.std.specs.Prelude.{ℕ, ◌+◌, ◌<◌, ◌≤◌, ◌≡◌, List, [], ◌∷◌, ◌++◌, length, get_or, drop, Option, Some, None}
 use Rattle.reading.specs.declared.Number.{Number}
-use Rattle.reading.specs.declared.Number.TheVariants as number
 use Rattle.reading.specs.declared.Two.{Two}
-use Rattle.reading.specs.declared.Two.TheVariants as two
 use Rattle.reading.specs.declared.Four.{Four}
-use Rattle.reading.specs.declared.Four.TheVariants as four
 use Rattle.writing.specs.Numbers.{decimal}
 
 -- what bytes stand at a place of a text, and that they reach to `next`
@@ -43,23 +40,23 @@ abbrev pub FourLine : ℕ → ℕ → ℕ → ℕ → List ℕ → Type 0
 FourLine x y u v = Then (Pair x y 32) (Pair u v 10)
 
 -- What a reader gives back: what stands at the place and where the text goes on; or `None` where nothing of the form stands there.
-abbrev pub NumberRead : List ℕ → ℕ → ℕ → Number → Type 0
-NumberRead text at end (number.Value n next) = At (Ended n end) text at next
-NumberRead text at end number.None = (n next : ℕ) → ¬ (At (Ended n end) text at next)
+abbrev pub NumberRead : List ℕ → ℕ → ℕ → Option Number → Type 0
+NumberRead text at end (Some n) = At (Ended n.value end) text at n.next
+NumberRead text at end None = (n next : ℕ) → ¬ (At (Ended n end) text at next)
 
 -- the same of two numbers
-abbrev pub PairRead : List ℕ → ℕ → ℕ → Two → Type 0
-PairRead text at end (two.Line a b next) = At (Pair a b end) text at next
-PairRead text at end two.None = (a b next : ℕ) → ¬ (At (Pair a b end) text at next)
+abbrev pub PairRead : List ℕ → ℕ → ℕ → Option Two → Type 0
+PairRead text at end (Some p) = At (Pair p.first p.second end) text at p.next
+PairRead text at end None = (a b next : ℕ) → ¬ (At (Pair a b end) text at next)
 
 -- of the line `w h`
-abbrev pub TwoRead : List ℕ → ℕ → Two → Type 0
+abbrev pub TwoRead : List ℕ → ℕ → Option Two → Type 0
 TwoRead text at r = PairRead text at 10 r
 
 -- and of the line `x y u v`
-abbrev pub FourRead : List ℕ → ℕ → Four → Type 0
-FourRead text at (four.Line x y u v next) = At (FourLine x y u v) text at next
-FourRead text at four.None = (x y u v next : ℕ) → ¬ (At (FourLine x y u v) text at next)
+abbrev pub FourRead : List ℕ → ℕ → Option Four → Type 0
+FourRead text at (Some f) = At (FourLine f.start.x f.start.y f.goal.x f.goal.y) text at f.next
+FourRead text at None = (x y u v next : ℕ) → ¬ (At (FourLine x y u v) text at next)
 
 -- the text has a byte of a kind at a place
 pub record Has (Is : ℕ → Type 0) (text : List ℕ) (at : ℕ) : Type 0 where

@@ -1,9 +1,8 @@
 -- What the rows of a map mean (01, "Floorwalk: the program and its listing"): W letters `.` (46, free) or `#` (35), and a newline (10);
 -- and the floor's words that they draw (01, "The floor").
-use Rattle.std.specs.Prelude.{ℕ, ◌+◌, ◌*◌, ◌<◌, ◌≡◌, Bool, ◌&&◌, List, [], ◌∷◌, ◌++◌, ◌⊎◌, ltb, eqb, length, get_or, drop}
+use Rattle.std.specs.Prelude.{ℕ, ◌+◌, ◌*◌, ◌<◌, ◌≡◌, Bool, ◌&&◌, List, [], ◌∷◌, ◌++◌, ◌⊎◌, ltb, eqb, length, get_or, drop, Result, Ok, Err}
 use Rattle.floor.specs.Words.{row_words, row_of, bit_free, bit_clear}
-use Rattle.reading.specs.declared.Rows.{Rows}
-use Rattle.reading.specs.declared.Rows.TheVariants.{All, Bad}
+use Rattle.reading.specs.declared.Misfit.{Misfit}
 use Rattle.reading.specs.Lines.{At}
 
 -- a byte is a letter of the map
@@ -37,14 +36,14 @@ pub record Filled (text : List ℕ) (from w n : ℕ) (before after : List ℕ) :
   pub rest : drop (n * row_words w) after ≡ drop (n * row_words w) before
 
 -- What reading h rows gives back: where the text goes on; or the first row that does not fit, with the rows before it in the words.
-abbrev pub RowsRead : List ℕ → ℕ → ℕ → ℕ → List ℕ → List ℕ → Rows → Type 0
-RowsRead text from w h before after (All next) = (next ≡ row_place from w h) × Filled text from w h before after
-RowsRead text from w h before after (Bad y) = (y < h) × (¬ (RowAt text (row_place from w y) w)) × Filled text from w y before after
+abbrev pub RowsRead : List ℕ → ℕ → ℕ → ℕ → List ℕ → List ℕ → Result ℕ Misfit → Type 0
+RowsRead text from w h before after (Ok next) = (next ≡ row_place from w h) × Filled text from w h before after
+RowsRead text from w h before after (Err bad) = (bad.row < h) × (¬ (RowAt text (row_place from w bad.row) w)) × Filled text from w bad.row before after
 
--- a word's bits are the columns of a row from `first` on, 0 where free, as the text has them from a place on
-abbrev pub Draws : List ℕ → ℕ → ℕ → ℕ → ℕ → Type 0
-Draws text at w first word = (k : ℕ) → k < 64 → bit_clear word k ≡ free_letter w (drop at text) (first + k)
+-- a word's bits are the columns of a row of these letters from `first` on, 0 where free
+abbrev pub Draws : List ℕ → ℕ → ℕ → Type 0
+Draws letters first word = (k : ℕ) → k < 64 → bit_clear word k ≡ free_letter (length letters) letters (first + k)
 
--- a row's words have the columns of a row of w letters, as the text has them from a place on
-abbrev pub DrawsRow : List ℕ → ℕ → ℕ → List ℕ → Type 0
-DrawsRow text at w row = (x : ℕ) → x < 64 * length row → bit_free row x ≡ free_letter w (drop at text) x
+-- a row's words have the columns of a row of these letters
+abbrev pub DrawsRow : List ℕ → List ℕ → Type 0
+DrawsRow letters row = (x : ℕ) → x < 64 * length row → bit_free row x ≡ free_letter (length letters) letters x

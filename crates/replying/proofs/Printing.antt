@@ -22,6 +22,10 @@ pub record Small (a : Answer) : Type 0 where
 abbrev pub Cells : List ℕ → Type 0
 Cells route = (i : ℕ) → get_or route i 0 < 65536
 
+-- the line of the same numbers
+pub same_answer : (figure : ℕ) {a b c d e f g h i j : ℕ} → a ≡ b → c ≡ d → e ≡ f → g ≡ h → i ≡ j → answer_numbers a c e g i figure ≡ answer_numbers b d f h j figure
+same_answer figure p q r s t = λ z. answer_numbers (p z) (q z) (r z) (s z) (t z) figure
+
 -- the part of code 0
 part_zero : (code : ℕ) (cells : List ℕ) → code ≡ 0 → route_cells cells ≡ route_part code cells
 unfolding route_part

@@ -10,6 +10,7 @@ use native.Mathlib.Decide.{dec_lt}
 use borrow.Author.Tests.{ltb-true, lt-ltb, le-ltb}
 use lib.Dec.{ltb}
 use lib.ListN.{length, get_or, get_or-eq_default}
+use Rattle.std.specs.Prelude.{Some, None}
 use Rattle.settling.specs.Chains.{wholes}
 use Rattle.settling.specs.Labels.{WaitingAt}
 use Rattle.settling.proofs.Instances.{nearest_no_later}
@@ -19,6 +20,7 @@ use Rattle.places.specs.declared.Trip.{Trip}
 use Rattle.places.specs.Columns.{column_of, Label, Settled}
 use Rattle.places.specs.Places.{cell_at}
 use Rattle.places.specs.Chart.{chart, cell}
+use Rattle.places.proofs.Cells.{some_one, none_some}
 use Rattle.places.proofs.Columns.{column_length}
 use Rattle.offers.specs.Tree.{waits_at, Right}
 use Rattle.offers.proofs.Trees.{leaf_waits, leaf_nobody}
@@ -78,13 +80,13 @@ module _ (C S E : List ℕ) {t : Trip} {W T : List ℕ} (few : t.k ≤ 2048) (ro
       (h, x.1, q, rw q at (top_least right.keyed v h))
 
   -- Where the top holds nobody, none waits: no node holds more than nobody.
-  pub first_none : ((i : ℕ) → get_or T i 0 ≤ nobody) → get_or T 1 0 ≡ nobody → First (chart C S E t W) W 0
+  pub first_none : ((i : ℕ) → get_or T i 0 ≤ nobody) → get_or T 1 0 ≡ nobody → First (chart C S E t W) W None
   first_none fits q = record {
-    inside = omega arith;
+    inside = λ u z. absurd (none_some z);
     none = λ z v e w.
         let x = waiting_key v e w in
         key_some (get_or D v 0) (cell_at C t v) v (omega (arith, x.0)) (omega (arith, fits (t.k + 2 + v), x.2, x.3));
-    some = λ pos. absurd (omega arith);
+    some = λ u z. absurd (none_some z);
   }
 
   -- A leaf that does not hold nobody holds the key of its place, which waits.
@@ -97,11 +99,11 @@ module _ (C S E : List ℕ) {t : Trip} {W T : List ℕ} (few : t.k ≤ 2048) (ro
 
   -- The place whose key is at the top is the foremost.
   foremost_of :
-      (p : ℕ) → p < t.k + 2 → waits_at D F p ≡ true → get_or T 1 0 ≡ key_of (get_or D p 0) (cell_at C t p) p → First (chart C S E t W) W (p + 1)
+      (p : ℕ) → p < t.k + 2 → waits_at D F p ≡ true → get_or T 1 0 ≡ key_of (get_or D p 0) (cell_at C t p) p → First (chart C S E t W) W (Some p)
   foremost_of p h w q = record {
-    inside = omega arith;
-    none = λ z. absurd (omega arith);
-    some = λ pos. let e : p + 1 - 1 ≡ p = omega arith in rw e
+    inside = λ u is. omega (arith, some_one is);
+    none = λ z. absurd (none_some (sym z));
+    some = λ u is. rw (← some_one is)
         (record {
           waits = x.1;
           first = λ v e w'.
@@ -117,7 +119,7 @@ module _ (C S E : List ℕ) {t : Trip} {W T : List ℕ} (few : t.k ≤ 2048) (ro
       x = entry_waiting D F p w
 
   -- Where it holds a key, the last twelve bits are the foremost place.
-  pub first_some : (get_or T 1 0 ≡ nobody → ⊥) → First (chart C S E t W) W (get_or T 1 0 % 4096 + 1)
+  pub first_some : (get_or T 1 0 ≡ nobody → ⊥) → First (chart C S E t W) W (Some (get_or T 1 0 % 4096))
   first_some held =
       let top = top_leaf right.keyed (omega arith) in
       let x = leaf_key top.0 top.1 (λ q. held (sym top.2 ∙ q)) in

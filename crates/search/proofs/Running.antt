@@ -2,25 +2,30 @@
 -- Assumes nothing.
 use mathlib.Core.Path.{◌≡◌, refl, sym, ◌∙◌, ap}
 use mathlib.Core.Logic.{◌⊎◌, ⊎_elim}
-use mathlib.Core.Bool.{true, false, true≢false}
+use mathlib.Core.Bool.{Bool, true, false, true≢false}
 use mathlib.Core.List.{List}
-use Prim.Native.Nat.{ℕ, zero, suc, ◌+◌, ◌-◌, ◌≤◌, ◌<◌}
+use Prim.Native.Nat.{ℕ, zero, suc, ◌+◌, ◌*◌, ◌-◌, ◌≤◌, ◌<◌}
 use native.Mathlib.Nat.{le_of_suc-le-suc}
 use native.Mathlib.Numerals.{add-one}
 use native.Mathlib.Omega.{arith}
 use native.Mathlib.Decide.{ℕ_discrete}
-use lib.ListN.{length, get_or, set}
+use lib.Dec.{ltb}
+use lib.ListN.{length, get_or, set, take}
+use Rattle.std.specs.Prelude.{Option, Some}
+use Rattle.std.specs.List.{count_by}
+use Rattle.std.proofs.lemmas.List.{take_all}
+use Rattle.std.proofs.lemmas.List.Sums.{count_by_more_yes, count_by_more_no}
 use lib.Seq.{get_or-set_same, get_or-set_other}
 use Rattle.settling.specs.Chains.{Shortest, wholes}
 use Rattle.settling.specs.Order.{Consistent}
 use Rattle.settling.specs.Labels.{Labels, WaitingAt, First as Start, Step, Sound, NoneAfter}
-use Rattle.settling.specs.Counts.{Counts, with, without, below}
+use Rattle.settling.specs.Counts.{Counts, empty, with, without, below}
 use Rattle.settling.proofs.Ranks.{no_later_trans, shorter_of_first}
 use Rattle.settling.proofs.Search.{follow, settled_shortest, none_before, settled_reachable, first_sound, step_sound}
 use Rattle.settling.proofs.Tally.{counts_unique, counts_none, counts_at_most, length_below}
 use Rattle.settling.proofs.Effort.{first_none_after, step_counts, none_after_unsettled, effort_without_goal, effort_distinct, settled_in_reach, none_tie}
 use Rattle.places.specs.declared.Trip.{Trip}
-use Rattle.places.specs.Columns.{column_of, Label, Left}
+use Rattle.places.specs.Columns.{column_of, Label, Settled, Left}
 use Rattle.places.specs.Chart.{Chart, chart, Fair, net, order, Ready}
 use Rattle.places.proofs.Columns.{column_length, left_same, left_trans}
 use Rattle.places.proofs.Links.{consistent, distinct}
@@ -116,28 +121,28 @@ module _ {C S E : List ℕ} {t : Trip} {W₀ : List ℕ} (ready : Ready C S E t 
 
     -- One place more is settled.
     pub running_step :
-        {W' T' : List ℕ} {r : ℕ} → (labels_of (t.k + 2) W).settled t.to ≡ false → m < budget → 0 < r → Settling C S E t W T r W' T' →
+        {W' T' : List ℕ} {u : ℕ} {r : Option ℕ} → (labels_of (t.k + 2) W).settled t.to ≡ false → m < budget → r ≡ Some u → Settling C S E t W T r W' T' →
         Running C S E t W₀ T₀ budget W' T' (m + 1)
-    running_step {W'} {T'} {r} open-goal h pos s = record {
+    running_step {W'} {T'} {u} open-goal h is s = record {
       left = left_trans run.left s.left;
       right = s.right;
       tree = s.tree ∙ run.tree;
-      sound = step_sound (net 𝓒) (order 𝓒) con (labels_of (t.k + 2) W) (labels_of (t.k + 2) W') run.sound (r - 1) move.0 move.1;
+      sound = step_sound (net 𝓒) (order 𝓒) con (labels_of (t.k + 2) W) (labels_of (t.k + 2) W') run.sound u move.0 move.1;
       none_after =
-          none_after_unsettled (net 𝓒) (order 𝓒) con (labels_of (t.k + 2) W) (labels_of (t.k + 2) W') run.sound (r - 1) move.0 move.1 t.to
+          none_after_unsettled (net 𝓒) (order 𝓒) con (labels_of (t.k + 2) W) (labels_of (t.k + 2) W') run.sound u move.0 move.1 t.to
           open-goal;
       counted =
           rw (add-one m)
-          (step_counts (net 𝓒) (order 𝓒) con (labels_of (t.k + 2) W) (labels_of (t.k + 2) W') run.sound (r - 1) move.0 move.1 (t.k + 2)
-          (omega (arith, s.inside)) m run.counted);
+          (step_counts (net 𝓒) (order 𝓒) con (labels_of (t.k + 2) W) (labels_of (t.k + 2) W') run.sound u move.0 move.1 (t.k + 2)
+          (s.inside u is) m run.counted);
       within = omega arith;
     }
       where
         con : Consistent (order 𝓒) (net 𝓒)
         con = consistent 𝓒 ready.fair
 
-        move : (d : ℕ) × Step (net 𝓒) (order 𝓒) (labels_of (t.k + 2) W) (labels_of (t.k + 2) W') (r - 1) d
-        move = rw (chart_same C S E t run.left) at (s.some pos)
+        move : (d : ℕ) × Step (net 𝓒) (order 𝓒) (labels_of (t.k + 2) W) (labels_of (t.k + 2) W') u d
+        move = rw (chart_same C S E t run.left) at (s.some u is)
 
     -- What a run comes to, if nobody waits where the goal is not settled and places are left to settle.
     outcome :
@@ -203,16 +208,17 @@ pub bounded_begun :
 bounded_begun C S E t begun b = rw (chart_same C S E t begun) b
 
 -- ---- the settled places counted
--- One place further: it counts where it has the property.
-module _ {P : ℕ → Type 0} {i m : ℕ} (c : Counts P (below i) m) where
-  -- It has.
-  pub counts_with : P i → Counts P (below (i + 1)) (m + 1)
-  counts_with p = rw (add-one i, add-one m) (with p c)
+-- Of the first i flags as many are set as are counted.
+flags_front : (D : List ℕ) (i : ℕ) → i ≤ length D → Counts (λ v. ltb 0 (get_or D v 0) ≡ true) (below i) (count_by (λ x. ltb 0 x) (take i D))
+flags_front D zero h = empty
+flags_front D (suc i) h = rw (← add-one i) (go (flags_front D i (omega arith)) (ltb 0 (get_or D i 0)) refl)
+  where
+    go : Counts (λ v. ltb 0 (get_or D v 0) ≡ true) (below i) (count_by (λ x. ltb 0 x) (take i D)) → (b : Bool) → ltb 0 (get_or D i 0) ≡ b → Counts (λ v. ltb 0 (get_or D v 0) ≡ true) (below (suc i)) (count_by (λ x. ltb 0 x) (take (i + 1) D))
+    go less true e = rw (count_by_more_yes (λ x. ltb 0 x) D i 0 h e, add-one (count_by (λ x. ltb 0 x) (take i D))) (with e less)
+    go less false e = rw (count_by_more_no (λ x. ltb 0 x) D i 0 h e) (without (λ f. true≢false (sym f ∙ e)) less)
 
-  -- It has not.
-  pub counts_without : (P i → ⊥) → Counts P (below (i + 1)) m
-  counts_without n = rw (add-one i) (without n c)
-
-  -- So far there are no more than were looked at.
-  pub counts_fit : m ≤ i
-  counts_fit = omega (arith, counts_at_most c, length_below i)
+-- The flags of n places that are set are those of the settled places.
+pub counts_flags : (n : ℕ) (W : List ℕ) → 6 * n ≤ length W → Counts (λ v. (labels_of n W).settled v ≡ true) (below n) (count_by (λ x. ltb 0 x) (column_of n W Settled))
+counts_flags n W room =
+    let long : length (column_of n W Settled) ≡ n = column_length n W Settled (omega arith) room in
+    rw (take_all n (column_of n W Settled) (omega arith)) at (flags_front (column_of n W Settled) n (omega arith))

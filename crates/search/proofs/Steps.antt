@@ -6,6 +6,7 @@ use mathlib.Core.List.{List}
 use Prim.Native.Nat.{ℕ, ◌+◌, ◌*◌, ◌-◌, ◌≤◌, ◌<◌}
 use native.Mathlib.Omega.{arith}
 use lib.ListN.{length, get_or, set}
+use Rattle.std.specs.Prelude.{Some, None}
 use lib.Seq.{get_or-set_same, get_or-set_other}
 use Rattle.settling.specs.Labels.{Step}
 use Rattle.tree.specs.Keys.{nobody, Changed}
@@ -14,6 +15,7 @@ use Rattle.places.specs.Columns.{column_of, Label, Settled, Put}
 use Rattle.places.specs.Places.{cell_at}
 use Rattle.places.specs.Chart.{Chart, chart, link_count, net, order, Ready}
 use Rattle.places.proofs.Columns.{column_length, only_left, left_same, left_trans}
+use Rattle.places.proofs.Cells.{some_one, none_some}
 use Rattle.places.proofs.Charts.{chart_same}
 use Rattle.offers.specs.Tree.{Small, Right}
 use Rattle.offers.specs.Offers.{limit, Offered, Followed}
@@ -54,45 +56,45 @@ module _ (𝓒 : Chart) (D F D' F' : List ℕ) (u : ℕ) where
 
 -- ---- a place is settled
 -- Nobody waits.
-pub settling_none : {C S E : List ℕ} {t : Trip} {W T : List ℕ} {r : ℕ} → First (chart C S E t W) W r → r ≡ 0 → Right C t W T → Settling C S E t W T 0 W T
-settling_none f z right = record {
-  inside = omega arith;
-  none = λ q. (refl, f.none z);
-  some = λ h. absurd (omega arith);
+pub settling_none : {C S E : List ℕ} {t : Trip} {W T : List ℕ} → First (chart C S E t W) W None → Right C t W T → Settling C S E t W T None W T
+settling_none f right = record {
+  inside = λ u z. absurd (none_some z);
+  none = λ q. (refl, f.none refl);
+  some = λ u z. absurd (none_some z);
   left = left_same _ _;
   right = right;
   tree = refl;
 }
 
-module _ {C S E : List ℕ} {t : Trip} {W : List ℕ} {r : ℕ} (f : First (chart C S E t W) W r) (pos : 0 < r) where
+module _ {C S E : List ℕ} {t : Trip} {W : List ℕ} {u : ℕ} (f : First (chart C S E t W) W (Some u)) where
   -- The foremost place has an entry.
-  pub first_entry : 0 < get_or (column_of (t.k + 2) W Label) (r - 1) 0
-  first_entry = omega (arith, some_read (get_or (column_of (t.k + 2) W Label) (r - 1) 0) _ (f.some pos).waits.1)
+  pub first_entry : 0 < get_or (column_of (t.k + 2) W Label) u 0
+  first_entry = omega (arith, some_read (get_or (column_of (t.k + 2) W Label) u 0) _ (f.some u refl).waits.1)
 
   -- It leaves room for one link more.
-  pub first_near : Near (chart C S E t W) (labels_of (t.k + 2) W) → get_or (column_of (t.k + 2) W Label) (r - 1) 0 ≤ limit + 1
-  first_near near = omega (arith, near.near (r - 1) _ (f.some pos))
+  pub first_near : Near (chart C S E t W) (labels_of (t.k + 2) W) → get_or (column_of (t.k + 2) W Label) u 0 ≤ limit + 1
+  first_near near = omega (arith, near.near u _ (f.some u refl))
 
   -- It is marked, and all its links are followed: a step.
   pub settling_some :
-      Ready C S E t W → {T W' T' W'' T'' : List ℕ} → Marked t W T (r - 1) W' T' →
-      Followed C S E t W' T' (r - 1) (get_or (column_of (t.k + 2) W Label) (r - 1) 0) (link_count (chart C S E t W') (r - 1)) W'' T'' →
-      Settling C S E t W T r W'' T''
+      Ready C S E t W → {T W' T' W'' T'' : List ℕ} → Marked t W T u W' T' →
+      Followed C S E t W' T' u (get_or (column_of (t.k + 2) W Label) u 0) (link_count (chart C S E t W') u) W'' T'' →
+      Settling C S E t W T (Some u) W'' T''
   settling_some ready {T} {W'} {T'} {W''} m l = record {
     inside = f.inside;
-    none = λ z. absurd (omega arith);
-    some = λ h. (_, step_of (chart C S E t W) (column_of (t.k + 2) W Label) (column_of (t.k + 2) W Settled) (column_of (t.k + 2) W'' Label) (column_of (t.k + 2) W'' Settled) (r - 1) (f.some pos) first_entry offered (l.settled ∙ m.settled) inside);
+    none = λ z. absurd (none_some (sym z));
+    some = λ x is. rw (← some_one is) (_, step_of (chart C S E t W) (column_of (t.k + 2) W Label) (column_of (t.k + 2) W Settled) (column_of (t.k + 2) W'' Label) (column_of (t.k + 2) W'' Settled) u (f.some u refl) first_entry offered (l.settled ∙ m.settled) inside);
     left = left_trans m.left l.left;
     right = l.right;
     tree = l.tree ∙ m.tree;
   }
     where
       offered :
-          Offered (chart C S E t W) (r - 1) (get_or (column_of (t.k + 2) W Label) (r - 1) 0) (link_count (chart C S E t W) (r - 1)) (column_of (t.k + 2) W Label) (column_of (t.k + 2) W'' Label)
+          Offered (chart C S E t W) u (get_or (column_of (t.k + 2) W Label) u 0) (link_count (chart C S E t W) u) (column_of (t.k + 2) W Label) (column_of (t.k + 2) W'' Label)
       offered = rw (chart_same C S E t m.left, m.label) at l.offered
 
-      inside : r - 1 < length (column_of (t.k + 2) W Settled)
-      inside = rw (column_length (t.k + 2) W Settled (omega arith) ready.room) (omega (arith, f.inside))
+      inside : u < length (column_of (t.k + 2) W Settled)
+      inside = rw (column_length (t.k + 2) W Settled (omega arith) ready.room) (f.inside u refl)
 
 -- ---- the beginning
 -- A tree that holds nobody is right where nothing is labelled.

@@ -1,7 +1,7 @@
 -- The search over a work space: labels, a step, and how it ends.
 -- Assumes nothing.
-use Rattle.std.specs.Prelude.{◌≡◌, ◌⊎◌, ◌↔◌, cond, true, false, List, ℕ, ◌+◌, ◌-◌, ◌≤◌, ◌<◌, ltb, length, get_or, set}
-use Rattle.std.proofs.Math.Option.{Option, some, none}
+use Rattle.std.specs.Prelude.{◌≡◌, ◌⊎◌, ◌↔◌, cond, true, false, List, Option, Some, None, ℕ, ◌+◌, ◌-◌, ◌≤◌, ◌<◌, ltb, length, get_or, set}
+use Rattle.std.proofs.Math.Option.{Option as Maybe, some, none}
 use Rattle.settling.specs.Chains.{Chain, Reachable, Shortest, wholes}
 use Rattle.settling.specs.Order.{NoLater}
 use Rattle.settling.specs.Labels.{Labels, SettledAt, WaitingAt, Step, Sound}
@@ -14,7 +14,7 @@ use Rattle.offers.specs.Tree.{Right}
 use Rattle.offers.specs.Offers.{limit}
 
 -- A label is stored as one more than it is, and 0 stands for none.
-abbrev pub read : ℕ → Option ℕ
+abbrev pub read : ℕ → Maybe ℕ
 read x = cond (ltb 0 x) (some (x - 1)) none
 
 -- The labels that two columns hold.
@@ -34,11 +34,11 @@ pub record Foremost (𝓒 : Chart) (𝓢 : Labels wholes) (u d : ℕ) : Type 0 w
 pub record Near (𝓒 : Chart) (𝓢 : Labels wholes) : Type 0 where
   pub near : (u d : ℕ) → Foremost 𝓒 𝓢 u d → d ≤ limit
 
--- r is one more than the place that waits foremost, or 0 where none waits.
-pub record First (𝓒 : Chart) (W : List ℕ) (r : ℕ) : Type 0 where
-  pub inside : r ≤ 𝓒.trip.k + 2
-  pub none : r ≡ 0 → (v e : ℕ) → WaitingAt (labels_of (𝓒.trip.k + 2) W) v e → ⊥
-  pub some : 0 < r → Foremost 𝓒 (labels_of (𝓒.trip.k + 2) W) (r - 1) (get_or (column_of (𝓒.trip.k + 2) W Label) (r - 1) 0 - 1)
+-- r is the place that waits foremost, or none where none waits.
+pub record First (𝓒 : Chart) (W : List ℕ) (r : Option ℕ) : Type 0 where
+  pub inside : (u : ℕ) → r ≡ Some u → u < 𝓒.trip.k + 2
+  pub none : r ≡ None → (v e : ℕ) → WaitingAt (labels_of (𝓒.trip.k + 2) W) v e → ⊥
+  pub some : (u : ℕ) → r ≡ Some u → Foremost 𝓒 (labels_of (𝓒.trip.k + 2) W) u (get_or (column_of (𝓒.trip.k + 2) W Label) u 0 - 1)
 
 -- Place u is settled, and the tree is right again, whatever the corners that it was right for.
 pub record Marked (t : Trip) (W T : List ℕ) (u : ℕ) (W' T' : List ℕ) : Type 0 where
@@ -48,12 +48,12 @@ pub record Marked (t : Trip) (W T : List ℕ) (u : ℕ) (W' T' : List ℕ) : Typ
   pub right : (C : List ℕ) → Right C t W T → Right C t W' T'
   pub tree : length T' ≡ length T
 
--- One place has been settled, and r is one more than it; or none waits, and r is 0.
-pub record Settling (C S E : List ℕ) (t : Trip) (W T : List ℕ) (r : ℕ) (W' T' : List ℕ) : Type 0 where
-  pub inside : r ≤ t.k + 2
-  pub none : r ≡ 0 → (W' ≡ W) × ((v e : ℕ) → WaitingAt (labels_of (t.k + 2) W) v e → ⊥)
+-- One place has been settled, and r is it; or none waits, and r is none.
+pub record Settling (C S E : List ℕ) (t : Trip) (W T : List ℕ) (r : Option ℕ) (W' T' : List ℕ) : Type 0 where
+  pub inside : (u : ℕ) → r ≡ Some u → u < t.k + 2
+  pub none : r ≡ None → (W' ≡ W) × ((v e : ℕ) → WaitingAt (labels_of (t.k + 2) W) v e → ⊥)
   pub some :
-      0 < r → (d : ℕ) × Step (net (chart C S E t W)) (order (chart C S E t W)) (labels_of (t.k + 2) W) (labels_of (t.k + 2) W') (r - 1) d
+      (u : ℕ) → r ≡ Some u → (d : ℕ) × Step (net (chart C S E t W)) (order (chart C S E t W)) (labels_of (t.k + 2) W) (labels_of (t.k + 2) W') u d
   pub left : Left (t.k + 2) W W'
   pub right : Right C t W' T'
   pub tree : length T' ≡ length T

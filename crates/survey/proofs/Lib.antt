@@ -1,4 +1,3 @@
 -- Laws that belong to no one function.
-pub mod Wipings
 pub mod Surveys
 pub mod SurveyOnly

@@ -10,7 +10,6 @@ use Rattle.floor.specs.Board.{dir_at}
 use Rattle.floor.specs.Refusals.{Refusal, FirstOf, Numbered}
 use Rattle.floor.specs.Words.{board, place_of, floor_rows, clear_bits, Floor}
 use Rattle.floor.proofs.Tables.{first_here, first_later}
-use Rattle.floor.proofs.Accepted.{accepted}
 use Rattle.floor.proofs.FreeCells.{free_cells_are}
 use Rattle.ground.specs.Kind.{walkers}
 use Rattle.corners.specs.Lists.{written}
@@ -22,15 +21,14 @@ use Rattle.plan.specs.Arcs.{TooMany}
 use Rattle.plan.specs.Linking.{AllLinked}
 use Rattle.survey.specs.Survey.{corner_count, lent_rows, early_rows, last_row, lists, wiped_all, refusal, SurveyOutcome}
 use Rattle.survey.specs.declared.Surveyed.{Surveyed}
+use Rattle.floor.specs.Codes.{number}
+use Rattle.floor.specs.Lent.{on, IsLent}
+use Rattle.floor.specs.declared.lent.Grid.{Grid}
+use Rattle.floor.specs.declared.refusal.Refusal.{Refusal as RefusedAs}
+use Rattle.floor.proofs.Numbers.{some_number}
 use Rattle.plan.proofs.Links.{links_built, built_unique}
 
 -- ---- tables
--- where none of two tables' rows applies, none of either's does
-first_none : (rs ss : List Refusal) → Numbered rs → FirstOf (rs ++ ss) 0 → FirstOf rs 0 × FirstOf ss 0
-first_none [] ss n p = (refl, p)
-first_none (r ∷ rs) ss n (inl p) = absurd (let l = n.0 in let e = p.1 in omega arith)
-first_none (r ∷ rs) ss n (inr p) = let q = first_none rs ss n.1 p.1 in (inr (p.0, q.0), q.1)
-
 -- no row has a number above n
 abbrev pub UpTo : ℕ → List Refusal → Type 0
 UpTo n [] = Unit {0}
@@ -45,69 +43,22 @@ first_few n (r ∷ rs) c u (inr p) = first_few n rs c u.1 p.1
 -- ---- the refusals 1 to 6
 module _ (w h : ℕ) (words : List ℕ) (bytes corners starts : ℕ) where
   -- a refusal of the floor
-  pub early_floor : (c : ℕ) → FirstOf (floor_rows w h words) c → ¬ (c ≡ 0) → FirstOf (early_rows w h words bytes corners starts) c
-  early_floor c p n = first_here (floor_rows w h words) (lent_rows w h words bytes corners starts) c p (omega (arith, n))
+  pub early_floor : (c : ℕ) → FirstOf (floor_rows w h words) c → 0 < c → FirstOf (early_rows w h words bytes corners starts) c
+  early_floor c p n = first_here (floor_rows w h words) (lent_rows w h words bytes corners starts) c p n
 
   -- the floor's rows have numbers
   numbered : Numbered (floor_rows w h words)
   numbered = (omega arith, (omega arith, (omega arith, tt)))
 
-  module _ (p : FirstOf (floor_rows w h words) 0) where
-    -- too few bytes
-    pub early_clear : bytes < 4 * (w * h) → FirstOf (early_rows w h words bytes corners starts) 4
-    early_clear l = first_later (floor_rows w h words) (lent_rows w h words bytes corners starts) 4 numbered p (inl (l, refl))
+  -- where the floor is not refused, what the rows 4 to 6 give is given
+  pub early_lent : (c : ℕ) → FirstOf (floor_rows w h words) 0 → FirstOf (lent_rows w h words bytes corners starts) c →
+      FirstOf (early_rows w h words bytes corners starts) c
+  early_lent c p q = first_later (floor_rows w h words) (lent_rows w h words bytes corners starts) c numbered p q
 
-    module _ (b : 4 * (w * h) ≤ bytes) (k : ℕ) (e : k ≡ corner_count w h words) where
-      -- there are enough bytes
-      enough_for : ¬ (bytes < 4 * (w * h))
-      enough_for l = omega arith
-
-      -- too many turning points
-      pub early_corners : (corners < k) ⊎ (2048 < k) → FirstOf (early_rows w h words bytes corners starts) 5
-      early_corners l = first_later (floor_rows w h words) (lent_rows w h words bytes corners starts) 5 numbered p (inr (enough_for, inl (rw e at l, refl)))
-
-      module _ (c : k ≤ corners) (d : k ≤ 2048) where
-        -- not too many
-        not_many : ¬ ((corners < corner_count w h words) ⊎ (2048 < corner_count w h words))
-        not_many l = ⊎_elim (λ q. omega arith) (λ q. omega arith) l
-
-        -- too few starts
-        pub early_starts : starts < k + 1 → FirstOf (early_rows w h words bytes corners starts) 6
-        early_starts l =
-            first_later (floor_rows w h words) (lent_rows w h words bytes corners starts) 6 numbered p (inr (enough_for, inr (not_many, inl (rw e at l, refl))))
-
-        -- none of the refusals
-        pub early_none : k + 1 ≤ starts → FirstOf (early_rows w h words bytes corners starts) 0
-        early_none l =
-            first_later (floor_rows w h words) (lent_rows w h words bytes corners starts) 0 numbered p (inr (enough_for, inr (not_many, inr (λ q. omega arith, refl))))
-
-  -- what holds where none of the refusals 1 to 6 applies
-  pub record Passed : Type 0 where
-    pub floor : Floor w h words
-    pub enough_bytes : 4 * (w * h) ≤ bytes
-    pub enough_corners : corner_count w h words ≤ corners
-    pub few_corners : corner_count w h words ≤ 2048
-    pub enough_starts : corner_count w h words < starts
-
-  -- and it does
-  pub early_passed : FirstOf (early_rows w h words bytes corners starts) 0 → Passed
-  early_passed p = let q = first_none (floor_rows w h words) (lent_rows w h words bytes corners starts) numbered p in by q.0 q.1
-    where
-      by : FirstOf (floor_rows w h words) 0 → FirstOf (lent_rows w h words bytes corners starts) 0 → Passed
-      by f (inl a) = absurd (let e = a.1 in omega arith)
-      by f (inr (a, inl b)) = absurd (let e = b.1 in omega arith)
-      by f (inr (a, inr (b, inl c))) = absurd (let e = c.1 in omega arith)
-      by f (inr (a, inr (b, inr (c, e)))) =
-          record {
-            floor = accepted w h words f;
-            enough_bytes = omega (arith, a);
-            enough_corners = at_most (λ l. b (inl l));
-            few_corners = at_most (λ l. b (inr l));
-            enough_starts = omega (arith, c);
-          }
-        where
-          at_most : {m n : ℕ} → ¬ (m < n) → n ≤ m
-          at_most l = omega (arith, l)
+  -- where none of the rows 4 to 6 applies, there are four clearances for each cell
+  pub lent_bytes : FirstOf (lent_rows w h words bytes corners starts) 0 → 4 * (w * h) ≤ bytes
+  lent_bytes (inl a) = absurd (let e = a.1 in omega arith)
+  lent_bytes (inr (a, q)) = omega (arith, a)
 
   -- their numbers are at most 6
   pub early_few : (c : ℕ) → FirstOf (early_rows w h words bytes corners starts) c → c ≤ 6
@@ -152,79 +103,84 @@ pub one_links : (w h : ℕ) (words corners : List ℕ) {s t ns ms : List ℕ} �
 one_links w h words corners {s} {t} {ns} {ms} a b =
     built_unique walkers w h words corners (links_built walkers w h words corners (length corners) s ns a) (links_built walkers w h words corners (length corners) t ms b)
 
--- four lists are the same where each is
-pub lists_eq : {a b c d a' b' c' d' : List ℕ} → a ≡ a' → b ≡ b' → c ≡ c' → d ≡ d' → lists a b c d ≡ lists a' b' c' d'
-lists_eq e f g k = λ i. lists (e i) (f i) (g i) (k i)
-
 -- lists as long as others are wiped to the same
 pub same_wiped : (a b c d a' b' c' d' : List ℕ) → length a ≡ length a' → length b ≡ length b' → length c ≡ length c' → length d ≡ length d' →
     wiped_all (lists a b c d) ≡ wiped_all (lists a' b' c' d')
 same_wiped a b c d a' b' c' d' e f g k = λ i. lists (replicate (e i) 0) (replicate (f i) 0) (replicate (g i) 0) (replicate (k i) 0)
 
+-- ---- the floor as it is lent
+module _ {w h : ℕ} {words : List ℕ} {g : Grid} (s : IsLent w h words g) where
+  -- what the floor's rows give is given of it
+  pub rows_lent : (c : ℕ) → FirstOf (floor_rows w h words) c → FirstOf (on floor_rows g) c
+  rows_lent c p = rw (s.width, s.height, s.same) p
+
+  -- and an outcome of it is one of the floor
+  pub outcome_lent : (lent : Lists) (r : Surveyed) (left : Lists) → on SurveyOutcome g lent r left → SurveyOutcome w h words lent r left
+  outcome_lent lent r left o = rw (s.width, s.height, s.same) at o
+
 -- ---- the ways out
-module _ (w h : ℕ) (words : List ℕ) (clear corners starts neighbours : List ℕ) (c : ℕ)
-    (p : FirstOf (early_rows w h words (length clear) (length corners) (length starts)) c) where
+module _ (w h : ℕ) (words : List ℕ) (clear corners starts neighbours : List ℕ) where
   -- the rows 1 to 6 have numbers
   numbered_early : Numbered (early_rows w h words (length clear) (length corners) (length starts))
   numbered_early = (omega arith, (omega arith, (omega arith, (omega arith, (omega arith, (omega arith, tt))))))
 
   -- a refusal 1 to 6 leaves all as it was
-  pub outcome_refused : ¬ (c ≡ 0) → (r : Surveyed) → r ≡ refusal c →
-      SurveyOutcome w h words (lists clear corners starts neighbours) r (lists clear corners starts neighbours)
-  outcome_refused n r f =
-      rw f (record {
-        number = first_here (early_rows w h words (length clear) (length corners) (length starts)) (last_row w h words (length neighbours)) c p (omega (arith, n));
-        done = λ e. absurd (n e);
+  pub outcome_refused : (r : RefusedAs) → FirstOf (early_rows w h words (length clear) (length corners) (length starts)) (number r) →
+      SurveyOutcome w h words (lists clear corners starts neighbours) (refusal (number r)) (lists clear corners starts neighbours)
+  outcome_refused r p =
+      let n = some_number r in
+      record {
+        number = first_here (early_rows w h words (length clear) (length corners) (length starts)) (last_row w h words (length neighbours)) (number r) p n;
+        done = λ e. absurd (omega arith);
         refused = λ l. record { no_free = refl; no_corners = refl; no_arcs = refl };
         kept = λ l k. refl;
-        seven_wipes = λ e. absurd (let k = early_few w h words (length clear) (length corners) (length starts) c p in omega arith);
-      })
-
-  -- refusal 7 leaves zeros
-  pub outcome_full : c ≡ 0 → TooMany w h words (length neighbours) → (left : Lists) → left ≡ wiped_all (lists clear corners starts neighbours) → (r : Surveyed) → r ≡ refusal 7 →
-      SurveyOutcome w h words (lists clear corners starts neighbours) r left
-  outcome_full e t left a r f =
-      rw f (record {
-        number = first_later (early_rows w h words (length clear) (length corners) (length starts)) (last_row w h words (length neighbours)) 7 numbered_early (rw e at p) (inl (t, refl));
-        done = λ z. absurd (omega arith);
-        refused = λ l. record { no_free = refl; no_corners = refl; no_arcs = refl };
-        kept = λ l k. absurd (omega arith);
-        seven_wipes = λ z. a;
-      })
-
-  -- and where all was written it is the plan
-  pub outcome_done : c ≡ 0 → (clear₁ corners₁ starts₁ neighbours₁ : List ℕ) (free k m : ℕ) → free ≡ clear_bits words (length words) → k ≡ corner_count w h words →
-      MarkedAll w h words clear clear₁ → corners₁ ≡ written (corner_cells w h words) corners →
-      AllLinked w h words (take k corners₁) starts neighbours m starts₁ neighbours₁ →
-      SurveyOutcome w h words (lists clear corners starts neighbours) (record { code = 0; free = free; corners = k; arcs = m }) (lists clear₁ corners₁ starts₁ neighbours₁)
-  outcome_done e clear₁ corners₁ starts₁ neighbours₁ free k m counted ks marked cornered linked =
-      let none : FirstOf (early_rows w h words (length clear) (length corners) (length starts)) 0 = rw e at p in
-      let passed = early_passed w h words (length clear) (length corners) (length starts) none in
-      let links : Links walkers w h words (corner_cells w h words) linked.starts linked.neighbours = rw first at linked.links in
-      record {
-        number = first_later (early_rows w h words (length clear) (length corners) (length starts)) (last_row w h words (length neighbours)) 0 numbered_early none (inr (enough links, refl));
-        done = λ z. record {
-          plan = lists (take (4 * (w * h)) clear₁) (corner_cells w h words) linked.starts linked.neighbours;
-          is_plan = record { marks = marks_first w h words clear clear₁ marked passed.enough_bytes; links = links };
-          clear = clear_written w h words clear clear₁ marked passed.enough_bytes;
-          corners = cornered;
-          starts = linked.starts_written;
-          neighbours = linked.list_written;
-          free_count = counted ∙ free_cells_are w h words passed.floor;
-          corners_told = ks;
-          arc_count = sym linked.count;
-        };
-        refused = λ l. absurd (omega arith);
-        kept = λ l q. absurd (omega arith);
-        seven_wipes = λ z. absurd (omega arith);
+        seven_wipes = λ e. absurd (let k = early_few w h words (length clear) (length corners) (length starts) (number r) p in omega arith);
       }
-    where
-      first : take k corners₁ ≡ corner_cells w h words
-      first = corners_first w h words corners corners₁ k ks cornered
 
-      enough : Links walkers w h words (corner_cells w h words) linked.starts linked.neighbours → ¬ (TooMany w h words (length neighbours))
-      enough links (n, arcs, l) =
-          let same : n ≡ m = sym arcs.count ∙ ap length (one_links w h words (corner_cells w h words) arcs.links links).1 ∙ linked.count in
-          let a = linked.few in
-          let b = linked.room in
-          ⊎_elim (λ q. omega arith) (λ q. omega arith) l
+  module _ (p : FirstOf (early_rows w h words (length clear) (length corners) (length starts)) 0) where
+    -- refusal 7 leaves zeros
+    pub outcome_full : TooMany w h words (length neighbours) → (left : Lists) → left ≡ wiped_all (lists clear corners starts neighbours) →
+        SurveyOutcome w h words (lists clear corners starts neighbours) (refusal 7) left
+    outcome_full t left a =
+        record {
+          number = first_later (early_rows w h words (length clear) (length corners) (length starts)) (last_row w h words (length neighbours)) 7 numbered_early p (inl (t, refl));
+          done = λ z. absurd (omega arith);
+          refused = λ l. record { no_free = refl; no_corners = refl; no_arcs = refl };
+          kept = λ l k. absurd (omega arith);
+          seven_wipes = λ z. a;
+        }
+
+    -- and where all was written it is the plan
+    pub outcome_done : Floor w h words → 4 * (w * h) ≤ length clear → (clear₁ corners₁ starts₁ neighbours₁ : List ℕ) (free k m : ℕ) → free ≡ clear_bits words (length words) → k ≡ corner_count w h words →
+        MarkedAll w h words clear clear₁ → corners₁ ≡ written (corner_cells w h words) corners →
+        AllLinked w h words (take k corners₁) starts neighbours m starts₁ neighbours₁ →
+        SurveyOutcome w h words (lists clear corners starts neighbours) (record { code = 0; free = free; corners = k; arcs = m }) (lists clear₁ corners₁ starts₁ neighbours₁)
+    outcome_done floor enough_bytes clear₁ corners₁ starts₁ neighbours₁ free k m counted ks marked cornered linked =
+        let links : Links walkers w h words (corner_cells w h words) linked.starts linked.neighbours = rw first at linked.links in
+        record {
+          number = first_later (early_rows w h words (length clear) (length corners) (length starts)) (last_row w h words (length neighbours)) 0 numbered_early p (inr (enough links, refl));
+          done = λ z. record {
+            plan = lists (take (4 * (w * h)) clear₁) (corner_cells w h words) linked.starts linked.neighbours;
+            is_plan = record { marks = marks_first w h words clear clear₁ marked enough_bytes; links = links };
+            clear = clear_written w h words clear clear₁ marked enough_bytes;
+            corners = cornered;
+            starts = linked.starts_written;
+            neighbours = linked.list_written;
+            free_count = counted ∙ free_cells_are w h words floor;
+            corners_told = ks;
+            arc_count = sym linked.count;
+          };
+          refused = λ l. absurd (omega arith);
+          kept = λ l q. absurd (omega arith);
+          seven_wipes = λ z. absurd (omega arith);
+        }
+      where
+        first : take k corners₁ ≡ corner_cells w h words
+        first = corners_first w h words corners corners₁ k ks cornered
+
+        enough : Links walkers w h words (corner_cells w h words) linked.starts linked.neighbours → ¬ (TooMany w h words (length neighbours))
+        enough links (n, arcs, l) =
+            let same : n ≡ m = sym arcs.count ∙ ap length (one_links w h words (corner_cells w h words) arcs.links links).1 ∙ linked.count in
+            let a = linked.few in
+            let b = linked.room in
+            ⊎_elim (λ q. omega arith) (λ q. omega arith) l

@@ -1,11 +1,13 @@
 -- The survey's promise: which of document 01's numbers it gives, what it returns and what it leaves in the four lists.
-use Rattle.std.specs.Prelude.{ℕ, ◌+◌, ◌*◌, ◌<◌, ◌≡◌, List, [], ◌∷◌, ◌++◌, ◌⊎◌, length}
+use Rattle.std.specs.Prelude.{ℕ, ◌+◌, ◌*◌, ◌<◌, ◌≡◌, Result, Ok, Err, List, [], ◌∷◌, ◌++◌, ◌⊎◌, length}
 use Rattle.floor.specs.Refusals.{Refusal, refuse, FirstOf}
 use Rattle.floor.specs.Words.{floor_rows, free_cells}
 use Rattle.corners.specs.Lists.{written, wiped}
 use Rattle.corners.specs.Corners.{corner_cells}
 use Rattle.plan.specs.Plan.{Lists, PlanOf}
 use Rattle.plan.specs.Arcs.{TooMany}
+use Rattle.floor.specs.declared.refusal.Refusal.{Refusal as RefusedAs}
+use Rattle.floor.specs.Codes.{number}
 use Rattle.survey.specs.declared.Surveyed.{Surveyed}
 
 -- K, the number of turning points
@@ -71,3 +73,12 @@ pub record SurveyOutcome (w h : ℕ) (words : List ℕ) (lent : Lists) (r : Surv
   pub refused : 0 < r.code → Refused r
   pub kept : 0 < r.code → r.code < 7 → left ≡ lent
   pub seven_wipes : r.code ≡ 7 → left ≡ wiped_all lent
+
+-- the answer that C gets: that of an accepted floor, or the number of a refusal
+abbrev pub answer_of : Result Surveyed RefusedAs → Surveyed
+answer_of (Ok s) = s
+answer_of (Err r) = refusal (number r)
+
+-- the outcome, where a refusal is told as such
+abbrev pub SurveyTold : ℕ → ℕ → List ℕ → Lists → Result Surveyed RefusedAs → Lists → Type 0
+SurveyTold w h words lent told left = SurveyOutcome w h words lent (answer_of told) left

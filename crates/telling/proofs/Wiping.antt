@@ -1,29 +1,20 @@
--- Setting the first entries of a list to 0, one after the other. Assumes nothing.
-use Prim.Native.Nat.{ℕ, zero, suc, ◌+◌, ◌≤◌, ◌<◌}
-use mathlib.Core.List.{List, [], ◌∷◌, ◌++◌, append_assoc}
+-- Setting the first entries of a list to 0. Assumes nothing.
+use Prim.Native.Nat.{ℕ, zero, suc, ◌≤◌}
+use mathlib.Core.List.{List, ◌++◌}
 use mathlib.Core.Path.{◌≡◌, refl, sym, ◌∙◌, ap}
-use native.Mathlib.Numerals.{add-one}
 use native.Mathlib.Omega.{arith}
-use lib.ListN.{length, drop, set, replicate, length-append, length-replicate, length-drop, replicate-append-replicate}
-use lib.Seq.{drop-cons, set_at}
+use lib.ListN.{length, take, drop, replicate, length-append, length-replicate, length-take, length-drop}
 use Rattle.corners.specs.Lists.{written}
 
 -- the list with its first i entries 0
 abbrev pub zeroed : ℕ → List ℕ → List ℕ
 zeroed i xs = written (replicate i 0) xs
 
--- at the beginning nothing is
-pub zeroed_none : (xs : List ℕ) → xs ≡ zeroed 0 xs
-zeroed_none xs = refl
-
--- one entry more
-pub zeroed_more : (xs : List ℕ) (i : ℕ) → i < length xs → set (zeroed i xs) i 0 ≡ zeroed (i + 1) xs
-zeroed_more xs i l =
-    ap (λ (ys : List ℕ). set ys i 0) (ap (λ (m : ℕ). replicate i 0 ++ drop m xs) (length-replicate i 0) ∙ ap (λ (ys : List ℕ). replicate i 0 ++ ys) (drop-cons xs i 0 l))
-    ∙ set_at (replicate i 0) _ (drop (suc i) xs) 0 i (length-replicate i 0)
-    ∙ sym (append_assoc (replicate i 0) (0 ∷ []) (drop (suc i) xs))
-    ∙ ap (λ (ys : List ℕ). ys ++ drop (suc i) xs) (replicate-append-replicate i 1 0)
-    ∙ ap (λ (m : ℕ). replicate (i + 1) 0 ++ drop m xs) (sym (length-replicate (i + 1) 0 ∙ add-one i))
+-- the part of the first i entries filled with 0 makes it
+pub zeroed_filled : (xs : List ℕ) (i : ℕ) → i ≤ length xs → replicate (length (take i xs)) 0 ++ drop i xs ≡ zeroed i xs
+zeroed_filled xs i l =
+    let q : length (take i xs) ≡ i = omega (arith, length-take i xs) in
+    ap (λ (n : ℕ). replicate n 0 ++ drop i xs) q ∙ ap (λ (n : ℕ). replicate i 0 ++ drop n xs) (sym (length-replicate i 0))
 
 -- as many entries as before
 pub zeroed_length : (xs : List ℕ) (i : ℕ) → i ≤ length xs → length (zeroed i xs) ≡ length xs

@@ -3,11 +3,11 @@
 // goes to one node and each comparison is of two numbers, so there is nothing to look up on the way.
 #![tactic(auto)]
 
-ghost use Rattle.std.specs.Prelude.{◌≡◌, ◌+◌, ◌≤◌, ◌<◌, min, get_or};
+ghost use Rattle.std.specs.Prelude.{◌≡◌, ◌+◌, ◌≤◌, ◌<◌, get_or};
 ghost use Rattle.tree.specs.Keys.{key_of, nobody, Keyed, Changed};
 
 // What the leaf of nobody holds: no key has these last twelve bits, since no place has this number.
-pub const NOBODY: u64 = 18446744073709551615;
+pub const NOBODY: u64 = u64::MAX;
 
 // The key of a place: its label, its cell and its own number, in 58 bits.
 pub fn key(label: u32, cell: usize, place: usize) -> u64
@@ -15,17 +15,11 @@ pub fn key(label: u32, cell: usize, place: usize) -> u64
     ensures is { result ≡ key_of label cell place }
     ensures fits { result ≤ nobody }
 {
-    label as u64 * 67108864 + (cell * 4096 + place) as u64
+    u64::from(label) * 67108864 + (cell * 4096 + place) as u64
 }
 
-// The less of two keys.
-fn lesser(a: u64, b: u64) -> u64
-    ensures { result ≡ min a b }
-{
-    if a < b { a } else { b }
-}
-
-// Leaf p gets a key that is no more than what it held: it goes up until a node holds no more.
+// Leaf p gets a key that is no more than what it held: it goes up until a node holds no more. Each turn halves the node's number, so
+// no range has the nodes passed.
 pub fn climb(tree: &mut [u64], n: usize, p: usize, key: u64)
     requires keyed { Keyed n tree.old }
     requires inside { (p < n) × (n ≤ 65536) }
@@ -35,7 +29,7 @@ pub fn climb(tree: &mut [u64], n: usize, p: usize, key: u64)
     let mut i = n + p;
     tree[i] = key;
     while 1 < i {
-        i = i / 2;
+        i /= 2;
         if tree[i] <= key {
             return;
         }
@@ -43,7 +37,7 @@ pub fn climb(tree: &mut [u64], n: usize, p: usize, key: u64)
     }
 }
 
-// Leaf p holds nobody from now on: each node above it gets the less of its children.
+// Leaf p holds nobody from now on: each node above it gets the less of its children, up to the top as in `climb`.
 pub fn empty(tree: &mut [u64], n: usize, p: usize)
     requires keyed { Keyed n tree.old }
     requires inside { (p < n) × (n ≤ 65536) }
@@ -53,8 +47,8 @@ pub fn empty(tree: &mut [u64], n: usize, p: usize)
     let mut best = NOBODY;
     tree[i] = best;
     while 1 < i {
-        best = lesser(best, tree[i + 1 - 2 * (i % 2)]);
-        i = i / 2;
+        best = best.min(tree[i + 1 - 2 * (i % 2)]);
+        i /= 2;
         tree[i] = best;
     }
 }

@@ -4,10 +4,15 @@
 ghost use Rattle.std.specs.Prelude.{◌≡◌, ◌*◌, ◌<◌, ◌≤◌, length};
 ghost use Rattle.floor.specs.Board.{at, step, nook, corner, dir_at};
 ghost use Rattle.floor.specs.Refusals.{Tells};
-ghost use Rattle.floor.specs.Words.{bit_clear, free_in, board, Sized};
+ghost use Rattle.floor.specs.Words.{bit_clear, free_in, board};
+ghost use Rattle.floor.specs.Lent.{of, on};
+ghost use Rattle.floor.specs.Cells.{Within};
 ghost use Rattle.windows.specs.Window.{cells, triple, window_of, OneWord, InWindow};
 
-// The eight directions N, E, S, W, NE, SE, SW, NW, each as its offsets of column and row. North is smaller y.
+use floor::{Cell, Grid};
+
+// The eight directions N, E, S, W, NE, SE, SW, NW, each as its offsets of column and row. North is smaller y. Directions are numbers: a
+// clearance stands at 4 * cell + dir in the list that C programs read.
 pub const DIRECTIONS: [[i32; 2]; 8] = [
     [0, -1],
     [1, 0],
@@ -19,8 +24,11 @@ pub const DIRECTIONS: [[i32; 2]; 8] = [
     [-1, -1],
 ];
 
+// The three rows of three cells round a cell, north first. It is an array of arrays, as document 01 has it.
+pub type Window = [[bool; 3]; 3];
+
 // A cell of a window by column and row.
-pub fn cell(win: [[bool; 3]; 3], i: usize, j: usize) -> bool
+pub fn cell(win: Window, i: usize, j: usize) -> bool
     requires { (i < 3) × (j < 3) }
     ensures { result ≡ cells win i j }
 {
@@ -39,33 +47,28 @@ pub fn in_window(dir: usize) -> [usize; 2]
 }
 
 // A step from the middle of a window, which is free, is legal: the target is free, and so are both sides of a diagonal step.
-pub fn step_legal(win: [[bool; 3]; 3], dir: usize) -> bool
+pub fn step_legal(win: Window, dir: usize) -> bool
     requires { dir < 8 }
     ensures { result ≡ step (cells win) (dir_at dir) (at 0 0) }
 {
-    let o = in_window(dir);
-    let i = o[0];
-    let j = o[1];
-    let straight = (i == 1) | (j == 1);
-    cell(win, i, j) & (straight | (cell(win, i, 1) & cell(win, 1, j)))
+    let [i, j] = in_window(dir);
+    cell(win, i, j) && (i == 1 || j == 1 || cell(win, i, 1) && cell(win, 1, j))
 }
 
 // The diagonal neighbour is blocked between two free straight ones.
-fn in_nook(win: [[bool; 3]; 3], dir: usize) -> bool
+fn in_nook(win: Window, dir: usize) -> bool
     requires { dir < 8 }
     ensures { result ≡ nook (cells win) (dir_at dir) (at 0 0) }
 {
-    let o = in_window(dir);
-    let i = o[0];
-    let j = o[1];
-    !cell(win, i, j) & (cell(win, i, 1) & cell(win, 1, j))
+    let [i, j] = in_window(dir);
+    !cell(win, i, j) && cell(win, i, 1) && cell(win, 1, j)
 }
 
-// The middle of a window is a turning point.
-pub fn is_corner(win: [[bool; 3]; 3]) -> bool
+// The middle of a window is a turning point: one of the four diagonal directions, 4 to 7, is a nook.
+pub fn is_corner(win: Window) -> bool
     ensures { result ≡ corner (cells win) (at 0 0) }
 {
-    cell(win, 1, 1) & (in_nook(win, 4) | (in_nook(win, 5) | (in_nook(win, 6) | in_nook(win, 7))))
+    cell(win, 1, 1) && (4..8).any(|dir| in_nook(win, dir))
 }
 
 // Three neighbouring bits of a word, from bit s on, are 0.
@@ -85,7 +88,7 @@ fn in_one_word(w: usize, a: usize) -> bool
     requires { a ≤ 255 }
     ensures { Tells (OneWord w a) result }
 {
-    if a + 2 < w { a % 64 < 62 } else { false }
+    a + 2 < w && a % 64 < 62
 }
 
 // Three places of a row from padded column x on. Most are bits of one word, which is read once.
@@ -107,43 +110,40 @@ fn three_in(row: &[u64], w: usize, x: usize) -> [bool; 3]
 }
 
 // Three places of the floor from column x on, in row y, both padded.
-fn three_at(words: &[u64], w: usize, h: usize, x: usize, y: usize) -> [bool; 3]
-    requires { Sized w h words.now × (x ≤ 255) }
-    ensures { result ≡ triple (λ i. board w h words.now i y) x }
+fn three_at(grid: &Grid, x: usize, y: usize) -> [bool; 3]
+    requires { x ≤ 255 }
+    ensures { result ≡ triple (λ i. of board grid.now i y) x }
 {
-    if y == 0 {
+    if y == 0 || grid.h < y {
         return [false; 3];
     }
-    if h < y {
-        return [false; 3];
-    }
-    three_in(floor::row_of(words, w, h, y - 1), w, x)
+    three_in(grid.row_of(y - 1), grid.w, x)
 }
 
-// The window round cell (x, y).
-pub fn window(words: &[u64], w: usize, h: usize, x: usize, y: usize) -> [[bool; 3]; 3]
-    requires { Sized w h words.now × ((x ≤ 255) × (y ≤ 255)) }
-    ensures { result ≡ window_of (board w h words.now) x y }
+// The window round a cell.
+pub fn window(grid: &Grid, cell: Cell) -> Window
+    requires { (cell.x ≤ 255) × (cell.y ≤ 255) }
+    ensures { result ≡ window_of (of board grid.now) cell.x cell.y }
 {
     [
-        three_at(words, w, h, x, y),
-        three_at(words, w, h, x, y + 1),
-        three_at(words, w, h, x, y + 2),
+        three_at(grid, cell.x, cell.y),
+        three_at(grid, cell.x, cell.y + 1),
+        three_at(grid, cell.x, cell.y + 2),
     ]
 }
 
-// Cell (x, y) is a turning point.
-pub fn corner_at(words: &[u64], w: usize, h: usize, x: usize, y: usize) -> bool
-    requires { Sized w h words.now × ((x < w) × (y < h)) }
-    ensures { result ≡ corner (board w h words.now) (at x y) }
+// A cell is a turning point.
+pub fn corner_at(grid: &Grid, cell: Cell) -> bool
+    requires { on Within grid.now cell }
+    ensures { result ≡ corner (of board grid.now) (at cell.x cell.y) }
 {
-    is_corner(window(words, w, h, x, y))
+    is_corner(window(grid, cell))
 }
 
-// A step from cell (x, y) is legal.
-pub fn step_at(words: &[u64], w: usize, h: usize, x: usize, y: usize, dir: usize) -> bool
-    requires { Sized w h words.now × ((x < w) × ((y < h) × (dir < 8))) }
-    ensures { result ≡ step (board w h words.now) (dir_at dir) (at x y) }
+// A step from a cell is legal.
+pub fn step_at(grid: &Grid, cell: Cell, dir: usize) -> bool
+    requires { on Within grid.now cell × (dir < 8) }
+    ensures { result ≡ step (of board grid.now) (dir_at dir) (at cell.x cell.y) }
 {
-    step_legal(window(words, w, h, x, y), dir)
+    step_legal(window(grid, cell), dir)
 }

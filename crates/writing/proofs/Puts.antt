@@ -1,14 +1,17 @@
 -- Bytes written into a list, one part after another, and how many they are. Assumes nothing.
-use Prim.Native.Nat.{ℕ, suc, ◌+◌, ◌*◌, ◌/◌, ◌%◌, ◌^◌, ◌<◌, ◌≤◌}
+use Prim.Native.Nat.{ℕ, suc, ◌+◌, ◌-◌, ◌*◌, ◌/◌, ◌%◌, ◌^◌, ◌<◌, ◌≤◌}
 use mathlib.Core.List.{List, [], ◌∷◌, ◌++◌, append_assoc, append-nil}
 use mathlib.Core.Path.{◌≡◌, refl, sym, ap, ap₂, ◌∙◌}
 use native.Mathlib.Nat.{add-zero}
 use native.Mathlib.Numerals.{add-one}
 use native.Mathlib.Omega.{arith}
-use lib.ListN.{length, get_or, take, drop, set, length-append}
-use lib.Seq.{take_at, drop_at, drop-drop, set_split, append_snoc, split_at, take-suc, length-take-le, paste, paste-zero, take-length}
+use lib.ListN.{length, get_or, take, drop, set, length-append, length-drop}
+use lib.Seq.{take_at, drop_at, drop-drop, set_split, append_snoc, split_at, take-suc, length-take-le, paste-zero}
+use borrow.Rule.Slice.PartMut.{put_mid, Post-is}
 use Rattle.writing.specs.Numbers.{Decimal, digit, more, decimal}
 use Rattle.writing.specs.Answers.{put_at, Put, named, spaced, number_line, cell_bytes, route_cells, floor_line, survey_refused, input_refused, answer_numbers}
+use Rattle.writing.specs.Growing.{Grown}
+use Rattle.writing.specs.declared.Line.{Line}
 use Rattle.writing.proofs.Decimals.{one_decimal, decimal_is, few_digits}
 
 -- ---- writing
@@ -45,14 +48,42 @@ pub put_one : (o : List ℕ) (a v : ℕ) → a < length o → Put o (set o a v) 
 unfolding put_at
 put_one o a v l = record { written = set_split o a v l ∙ sym (append_snoc (take a o) v (drop (suc a) o)) ∙ ap (λ n. take a o ++ v ∷ [] ++ drop n o) (sym (add-one a)); ends = refl }
 
--- a text copied to its end
-pub put_all : (o : List ℕ) (a : ℕ) (text : List ℕ) (i : ℕ) → i ≡ length text → Put o (paste o a text i) a (a + length text) text
+-- a text copied into a part of the list
+pub put_copy : (o : List ℕ) (a : ℕ) (text copied : List ℕ) → copied ≡ text → Put o (put_mid a (a + length text - a) o copied) a (a + length text) text
 unfolding put_at
-put_all o a text i e = record { written = rw (e, take-length); ends = refl }
+put_copy o a text copied e =
+    let after = Post-is a (a + length text) o (omega arith) in
+    record { written = rw (e, after) (sym (append_assoc (take a o) text (drop (a + length text) o))); ends = refl }
 
 -- the same bytes by another name
 pub put_same : {o p : List ℕ} {a b : ℕ} {x y : List ℕ} → x ≡ y → Put o p a b x → Put o p a b y
 put_same e s = rw e at s
+
+-- what is put into a list leaves it as long as it was
+put_long : {o p : List ℕ} {a r : ℕ} {bytes : List ℕ} → a + length bytes ≤ length o → Put o p a r bytes → length p ≡ length o
+unfolding put_at
+put_long {o} {a} {bytes} l p = ap length p.written ∙ simp (length-append, length-drop) (omega (arith, length-take-le a o (omega arith)))
+
+-- ---- lines
+-- a line whose list is another, with bytes put at its end
+pub grown : (l m : Line) (bytes : List ℕ) → l.used + length bytes ≤ length l.out.now → m.out.ghost_name ≡ l.out.ghost_name → Put l.out.now m.out.now l.used m.used bytes → Grown l m bytes
+grown l m bytes h e p = record { same = e; put = p; long = put_long h p }
+
+-- a line that has not grown
+pub grown_none : (l : Line) → Grown l l []
+grown_none l = record { same = refl; put = put_none l.out.now l.used; long = refl }
+
+-- a line that has grown twice
+pub grown_then : {l m n : Line} {x y : List ℕ} → l.used ≤ length l.out.now → Grown l m x → Grown m n y → Grown l n (x ++ y)
+grown_then h g k = record { same = k.same ∙ g.same; put = put_then h g.put k.put; long = k.long ∙ g.long }
+
+-- the same bytes by another name
+pub grown_same : {l m : Line} {x y : List ℕ} → x ≡ y → Grown l m x → Grown l m y
+grown_same e g = rw e at g
+
+-- what a line put into the list that was lent for it
+pub put_back : {o p q : List ℕ} {a r : ℕ} {bytes : List ℕ} → p ≡ q → Put o q a r bytes → Put o p a r bytes
+put_back e p = rw (← e) at p
 
 -- ---- decimals, as they are written
 -- one digit

@@ -1,3 +1,4 @@
 -- The definitions that the contracts cite.
 pub mod Numbers
 pub mod Answers
+pub mod Growing

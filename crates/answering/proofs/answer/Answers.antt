@@ -2,42 +2,7 @@
 use native.Mathlib.Omega.{arith}
 use Rattle.answering.proofs.Choosing.{start_cell, goal_cell, small_ends, by_line, searchable, by_search}
 use Rattle.answering.proofs.answer.Goals as goal
-
-pub take_line-r-requires : goal.take_line-r-requires
-take_line-r-requires c = let q = c.requires in
-    record { cells = (start_cell _ q, goal_cell _ q); small = small_ends _ q }
-
-pub returns-then-line_legal : goal.returns-then-line_legal
-returns-then-line_legal c =
-    by_line _ c.requires _ _ _ (c.line_legal.ensures.yes c.if-line_legal.true) c.take_line-r.ensures c.zero_first.ensures
-
-pub overflow_mul-sy : goal.overflow_mul-sy
-overflow_mul-sy c =
-    let q = start_cell _ c.requires in
-    let l = q.column in
-    let m = q.rows in
-    omega arith
-
-pub overflow_add-sy : goal.overflow_add-sy
-overflow_add-sy c =
-    let q = start_cell _ c.requires in
-    let l = q.column in
-    let m = q.rows in
-    omega arith
-
-pub overflow_mul-gy : goal.overflow_mul-gy
-overflow_mul-gy c =
-    let q = goal_cell _ c.requires in
-    let l = q.column in
-    let m = q.rows in
-    omega arith
-
-pub overflow_add-gy : goal.overflow_add-gy
-overflow_add-gy c =
-    let q = goal_cell _ c.requires in
-    let l = q.column in
-    let m = q.rows in
-    omega arith
+use Rattle.answering.proofs.answer.Goals.{then-line_legal, else-line_legal}
 
 pub search_answer-r-requires : goal.search_answer-r-requires
 search_answer-r-requires c =
@@ -45,6 +10,11 @@ search_answer-r-requires c =
 
 pub returns : goal.returns
 returns c =
-    let s = c.search_answer-r.ensures in
-    by_search _ c.requires (c.line_legal.ensures.no c.if-line_legal.false) _ _ _ _ s.answer s.beyond
-    c.zero_first-2.ensures
+    elim c.if-line_legal.branch [
+      | then-line_legal w ↦
+          rw (w.r-is, w.route-is) (by_line _ c.requires _ _ _ (c.line_legal.ensures.yes w.if-line_legal.true) w.take_line-r.ensures (rw w.work-is at c.zero_first.ensures))
+      | else-line_legal w ↦
+          rw (w.r-is, w.route-is)
+          (by_search _ c.requires (c.line_legal.ensures.no w.if-line_legal.false) _ _ _ _ w.search_answer-r.ensures.answer w.search_answer-r.ensures.beyond
+          (rw w.work-is at c.zero_first.ensures))
+    ]

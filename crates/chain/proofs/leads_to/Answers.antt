@@ -2,24 +2,20 @@
 use mathlib.Core.Bool.{true≢false}
 use mathlib.Core.Path.{sym, ◌∙◌}
 use native.Mathlib.Omega.{arith}
+use Rattle.places.proofs.Links.{two_cells}
 use Rattle.chain.proofs.Backwards.{leads_tells}
 use Rattle.chain.proofs.leads_to.Goals as goal
 
-pub returns-then-link-eq0 : goal.returns-then-link-eq0
-returns-then-link-eq0 c = record { yes = λ h. absurd (true≢false (sym h)); no = λ h l. let s = l.some in omega arith }
-
-pub returns-then-settled-eq0 : goal.returns-then-settled-eq0
-returns-then-settled-eq0 c = record { yes = λ h. absurd (true≢false (sym h)); no = λ h l. let s = l.settled in let g = c.get-settled.ensures in omega arith }
+pub returns-then-get-eq0 : goal.returns-then-get-eq0
+returns-then-get-eq0 c = record { yes = λ h. absurd (true≢false (sym h)); no = λ h l. let s = l.settled in let g = c.get.ensures in omega arith }
 
 pub returns : goal.returns
 returns c =
-    let a = c.args in
-    leads_tells a.corners.now a.t a.work.now a.v a.link
-    c.if-link-eq0.false
-    c.get-settled.ensures
-    c.if-settled-eq0.false
-    (c.size.ensures.same ∙ c.get-near.ensures)
-    (c.size-3.ensures.same ∙ c.get-far.ensures)
+    leads_tells _ _ _ c.args.v c.args.u
+    c.get.ensures
+    c.if-get-eq0.false
+    (c.from.ensures ∙ c.get-near.ensures)
+    (c.from-3.ensures ∙ c.get-far.ensures)
     c.cell_of-a.ensures
     c.cell_of-b.ensures
-    (c.size-2.ensures.same ∙ c.leg-leg.ensures.apart)
+    (c.from-2.ensures ∙ c.leg-leg.ensures.apart)

@@ -1,12 +1,10 @@
 -- `chain::leg_length` meets its contract: the columns and rows of two cells fit. Assumes nothing.
-use mathlib.Core.Path.{◌∙◌}
+use Rattle.places.proofs.Links.{two_cells}
 use Rattle.chain.proofs.Backwards.{two_small}
 use Rattle.chain.proofs.leg_length.Goals as goal
 
-pub line_length-requires : goal.line_length-requires
-line_length-requires c =
-    let r = c.requires.cells in
-    rw (c.cell_of-a.ensures, c.cell_of-b.ensures) (two_small r)
-
 pub returns : goal.returns
-returns c = c.line_length.ensures ∙ rw (c.cell_of-a.ensures, c.cell_of-b.ensures)
+returns c =
+    let a = c.end_of.ensures in
+    let b = c.end_of-2.ensures in
+    rw (a.0, a.1, b.0, b.1) at c.line_length.ensures

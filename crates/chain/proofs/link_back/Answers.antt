@@ -6,107 +6,97 @@ use native.Mathlib.Omega.{arith}
 use lib.ListN.{length}
 use Rattle.lengths.specs.Lengths.{pair, len_of}
 use Rattle.places.proofs.Columns.{only_same, only_trans}
-use Rattle.places.proofs.Links.{two_cells}
+use Rattle.places.specs.Roads.{on}
 use Rattle.chain.specs.Chain.{Journey, Walked, Prior}
 use Rattle.chain.proofs.Backwards.{goal_reached, reached_inside, Tracing, tracing_none, leg_fits, tracing_next, tracing_done, reached_kept, prior_kept, walked_kept}
 use Rattle.chain.proofs.link_back.Goals as goal
 use Rattle.chain.proofs.link_back.Goals.{After-leg_length-leg, After-place_before-u, At-loop-v}
 
 pub loop-v-init : goal.loop-v-init
-loop-v-init c = (only_same _ _ _, goal_reached c.requires.walked.1, λ a k. tracing_none k)
+loop-v-init c = (only_same _ _ _, goal_reached c.requires.1, λ a k. tracing_none k)
 
 pub place_before-u-requires : goal.place_before-u-requires
 place_before-u-requires c =
-    let t = c.args.t in
+    let t = c.args.roads.now.trip in
     let l = c.loop-v in
     record {
-      walked = (c.requires.walked.0, walked_kept t l.invariant.0 c.requires.walked.1);
+      walked = (c.requires.0, walked_kept t l.invariant.0 c.requires.1);
       reached = reached_kept t l.invariant.0 l.invariant.1;
       other = c.loop-v-test.true;
-      indexed = c.requires.indexed;
     }
 
 -- the place before v, by the labels as they were
 prior : (c : After-place_before-u) (a : Journey) →
-    Walked a c.args.corners.now c.args.starts.now c.args.neighbours.now c.args.t c.args.work.now →
-    Prior a c.args.corners.now c.args.starts.now c.args.neighbours.now c.args.t c.args.work.now c.loop-v.v c.place_before-u.result
+    on (Walked a) c.args.roads.now c.args.work.now →
+    on (Prior a) c.args.roads.now c.args.work.now c.loop-v.v c.place_before-u.result
 prior c a k =
-    let t = c.args.t in
+    let t = c.args.roads.now.trip in
     let o = c.loop-v.invariant.0 in
     prior_kept t o (c.place_before-u.ensures a (walked_kept t o k))
 
 -- v is one of the places
-v_inside : (c : After-place_before-u) → c.loop-v.v < c.args.t.k + 2
-v_inside c = reached_inside c.requires.walked.1 c.loop-v.v c.loop-v.invariant.1.settled
+v_inside : (c : After-place_before-u) → c.loop-v.v < c.args.roads.now.trip.k + 2
+v_inside c = reached_inside c.requires.1 c.loop-v.v c.loop-v.invariant.1.settled
 
 pub leg_length-leg-requires : goal.leg_length-leg-requires
 leg_length-leg-requires c =
-    let k = c.requires.walked.1 in
+    let k = c.requires.1 in
     let s = (goal.at.leg_length-leg-requires c).After-place_before-u in
-    record {
-      corners = k.ready.fair.corners;
-      cells = two_cells _ k.ready.fair c.place_before-u.result c.loop-v.v (prior s c.requires.walked.0 k).inside (v_inside s);
-    }
+    ((prior s c.requires.0 k).inside, v_inside s)
 
 -- with one leg more the counts fit
 fits : (c : After-leg_length-leg) →
-    Prior c.requires.walked.0 c.args.corners.now c.args.starts.now c.args.neighbours.now c.args.t c.args.work.now c.loop-v.v c.place_before-u.result →
+    on (Prior c.requires.0) c.args.roads.now c.args.work.now c.loop-v.v c.place_before-u.result →
     (c.loop-v.straight + (len_of c.leg_length-leg.result).straight < 65536) × (c.loop-v.diagonal + (len_of c.leg_length-leg.result).diagonal < 65536)
 fits c p =
-    let k = c.requires.walked.1 in
-    leg_fits k (c.loop-v.invariant.2 c.requires.walked.0 k) p c.leg_length-leg.ensures
+    let k = c.requires.1 in
+    leg_fits k (c.loop-v.invariant.2 c.requires.0 k) p c.leg_length-leg.ensures
 
 pub overflow_add-straight : goal.overflow_add-straight
 overflow_add-straight c =
     let s = goal.at.overflow_add-straight c in
-    let f = (fits s.After-leg_length-leg (prior s.After-place_before-u c.requires.walked.0 c.requires.walked.1)).0 in
+    let f = (fits s.After-leg_length-leg (prior s.After-place_before-u c.requires.0 c.requires.1)).0 in
     omega arith
 
 pub overflow_add-diagonal : goal.overflow_add-diagonal
 overflow_add-diagonal c =
     let s = goal.at.overflow_add-diagonal c in
-    let f = (fits s.After-leg_length-leg (prior s.After-place_before-u c.requires.walked.0 c.requires.walked.1)).1 in
+    let f = (fits s.After-leg_length-leg (prior s.After-place_before-u c.requires.0 c.requires.1)).1 in
     omega arith
 
-pub overflow_add-t : goal.overflow_add-t
-overflow_add-t c = let f = c.requires.walked.1.ready.fair.few in omega arith
-
 pub overflow_cast-v : goal.overflow_cast-v
-overflow_cast-v c = let f = c.requires.walked.1.ready.fair.few in let v = v_inside (goal.at.overflow_cast-v c).After-place_before-u in omega arith
+overflow_cast-v c = let f = c.requires.1.ready.fair.few in let v = v_inside (goal.at.overflow_cast-v c).After-place_before-u in omega arith
 
 pub overflow_add-v : goal.overflow_add-v
-overflow_add-v c = let f = c.requires.walked.1.ready.fair.few in let v = v_inside (goal.at.overflow_add-v c).After-place_before-u in omega arith
+overflow_add-v c = let f = c.requires.1.ready.fair.few in let v = v_inside (goal.at.overflow_add-v c).After-place_before-u in omega arith
 
 -- the columns still have room
-room : (c : At-loop-v) → 6 * (c.args.t.k + 2) ≤ length c.loop-v.work
-room c = let r = c.requires.walked.1.ready.room in let e = c.loop-v.invariant.0.sized in omega arith
+room : (c : At-loop-v) → 6 * (c.args.roads.now.trip.k + 2) ≤ length c.loop-v.work
+room c = let r = c.requires.1.ready.room in let e = c.loop-v.invariant.0.sized in omega arith
 
 pub put-requires : goal.put-requires
 put-requires c =
     let s = goal.at.put-requires c in
     record {
       column = omega arith;
-      place = (prior s.After-place_before-u c.requires.walked.0 c.requires.walked.1).inside;
+      place = (prior s.After-place_before-u c.requires.0 c.requires.1).inside;
       room = room s.At-loop-v;
     }
 
 pub loop-v-smaller : goal.loop-v-smaller
-loop-v-smaller c = (prior (goal.at.loop-v-smaller c).After-place_before-u c.requires.walked.0 c.requires.walked.1).nearer
+loop-v-smaller c = (prior (goal.at.loop-v-smaller c).After-place_before-u c.requires.0 c.requires.1).nearer
 
 pub loop-v-preserved : goal.loop-v-preserved
 loop-v-preserved c =
     let s = goal.at.loop-v-preserved c in
     let l = c.loop-v in
-    let p = prior s.After-place_before-u c.requires.walked.0 c.requires.walked.1 in (
+    let p = prior s.After-place_before-u c.requires.0 c.requires.1 in (
       only_trans l.invariant.0 c.put.ensures.only,
       record { settled = p.settled; near = let n = p.nearer in let m = l.invariant.1.near in omega arith },
       λ a k.
           tracing_next k (l.invariant.2 a k) (prior s.After-place_before-u a k) c.leg_length-leg.ensures c.loop-v-test.true l.invariant.1.settled
           (room s.At-loop-v) c.put.ensures,
     )
-
-pub shape_of-work : goal.shape_of-work
-shape_of-work c = c.loop-v.invariant.0.sized
 
 pub returns : goal.returns
 returns c =
@@ -117,5 +107,5 @@ returns c =
       linked =
           λ a k.
           tracing_done k l.invariant.0
-          (subst (λ (v : ℕ). Tracing a s.corners.now s.t s.work.now l.work v (pair l.straight l.diagonal)) c.loop-v-test.false (l.invariant.2 a k));
+          (subst (λ (v : ℕ). Tracing a s.roads.now.corners.now s.roads.now.trip s.work.now l.work v (pair l.straight l.diagonal)) c.loop-v-test.false (l.invariant.2 a k));
     }

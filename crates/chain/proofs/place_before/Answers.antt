@@ -1,87 +1,41 @@
 -- `chain::place_before` meets its contract: the loop's invariant: of the links looked at, the best is known. Assumes nothing.
-use Prim.Native.Nat.{ℕ, ◌+◌, ◌-◌, ◌≤◌}
-use mathlib.Core.Path.{◌≡◌, sym, subst}
+use mathlib.Core.Path.{◌≡◌, sym, ◌∙◌, ap}
 use native.Mathlib.Omega.{arith}
+use Rattle.std.specs.Prelude.{is_some}
 use Rattle.places.specs.Chart.{chart, link_count}
-use Rattle.places.proofs.Links.{two_cells, link_fits}
-use Rattle.offers.proofs.Follows.{ready_room}
-use Rattle.chain.specs.Chain.{LeadsTo, Lesser}
+use Rattle.places.specs.Roads.{of, on}
+use Rattle.places.proofs.Cells.{some_one, none_some}
+use Rattle.places.proofs.Links.{link_fits}
 use Rattle.chain.proofs.Backwards.{Best, best_none, best_skip, best_more, reached_inside, best_some, best_prior}
+use Rattle.chain.specs.Chain.{LeadsTo}
 use Rattle.chain.proofs.place_before.Goals as goal
-use Rattle.chain.proofs.place_before.Goals.{After-loop-j, then-leads_to, else-leads_to}
+use Rattle.chain.proofs.place_before.Goals.{After-loop-j, in-Some+then-leads_to, in-Some+else-leads_to, in_default}
 
-pub link_count-count-requires : goal.link_count-count-requires
-link_count-count-requires c = c.requires.walked.1.ready.fair.rows
-
-pub loop-j-init : goal.loop-j-init
-loop-j-init c = (c.link_count-count.ensures, omega arith, best_none)
-
-pub link_at-link-requires : goal.link_at-link-requires
-link_at-link-requires c =
-    record { ready = c.requires.walked.1.ready; there = let e = c.loop-j.invariant.0 in omega arith; indexed = c.requires.indexed }
-
-pub leads_to-requires : goal.leads_to-requires
-leads_to-requires c =
+pub leads_to-requires-clause-inside : goal.leads_to-requires-clause-inside
+leads_to-requires-clause-inside c =
     let k = c.requires.walked.1 in
-    let a = c.args in
-    let l = c.loop-j in
-    let inside = reached_inside k a.v c.requires.reached.settled in
-    let fits : c.link_at-link.result ≤ a.t.k + 2 =
-    let e = c.link_at-link.ensures in
-    let m = l.invariant.0 in
-    omega (arith, link_fits (chart a.corners.now a.starts.now a.neighbours.now a.t a.work.now) k.ready.fair a.v l.j (omega arith)) in
-    record {
-      room = ready_room k.ready;
-      inside = (inside, fits);
-      cells = two_cells _ k.ready.fair (c.link_at-link.result - 1) a.v (omega arith) inside;
-    }
-
-pub lesser-best-requires : goal.lesser-best-requires
-lesser-best-requires c =
-    record { corners = c.requires.walked.1.ready.fair.corners; some = (c.leads_to.ensures.yes c.if-leads_to.true).some }
+    (reached_inside k c.args.v c.requires.reached.settled, link_fits _ k.ready.fair c.args.v c.in-Some.u c.loop-j.j (omega (arith, c.link_count-count.ensures)) (sym c.link_at.ensures ∙ c.in-Some.is))
 
 pub loop-j-preserved : goal.loop-j-preserved
 loop-j-preserved c =
-    let a = c.args in
-    let l = c.loop-j in
-    let e = c.link_at-link.ensures in
-    let 𝓒 = chart a.corners.now a.starts.now a.neighbours.now a.t a.work.now in (
-      l.invariant.0,
-      omega arith,
-      elim c.if-leads_to.branch [
-        | then-leads_to w ↦
-            rw w.best-is
-            (best_more l.invariant.2
-            (subst (LeadsTo a.corners.now a.t a.work.now a.v) e (c.leads_to.ensures.yes w.if-leads_to.true))
-            (subst (λ (x : ℕ). Lesser a.corners.now a.t l.best x w.lesser-best.result) e w.lesser-best.ensures))
-        | else-leads_to w ↦
-            rw w.best-is
-            (best_skip l.invariant.2
-            (λ h. c.leads_to.ensures.no w.if-leads_to.false (subst (LeadsTo a.corners.now a.t a.work.now a.v) (sym e) h)))
-      ],
-    )
+    let b = c.loop-j.invariant in
+    let e = sym c.link_at.ensures in
+    elim c.match-link_at.branch [
+      | in-Some+then-leads_to w ↦ rw w.best-is (best_more b (e ∙ w.in-Some.is) (w.leads_to.ensures.yes w.if-leads_to.true) w.lesser.ensures)
+      | in-Some+else-leads_to w ↦
+          rw w.best-is (best_skip b (λ x q. rw (some_one (sym (e ∙ w.in-Some.is) ∙ q)) at (w.leads_to.ensures.no w.if-leads_to.false)))
+      | in_default w ↦ rw w.best-is (best_skip b (λ x q. absurd (none_some (sym (e ∙ w.in_default.is) ∙ q))))
+    ]
 
 -- all links have been looked at
-all_seen : (c : After-loop-j) →
-    Best c.args.corners.now c.args.starts.now c.args.neighbours.now c.args.t c.args.work.now c.args.v
-    (link_count (chart c.args.corners.now c.args.starts.now c.args.neighbours.now c.args.t c.args.work.now) c.args.v)
-    c.loop-j.best
+all_seen : (c : After-loop-j) → on Best c.args.roads.now c.args.work.now c.args.v (link_count (of chart c.args.roads.now c.args.work.now) c.args.v) c.loop-j.best
 all_seen c =
-    let a = c.args in
-    let l = c.loop-j in
-    let q : l.j ≡ link_count (chart a.corners.now a.starts.now a.neighbours.now a.t a.work.now) a.v = let e = l.invariant.0 in omega arith in
-    subst (λ (j : ℕ). Best a.corners.now a.starts.now a.neighbours.now a.t a.work.now a.v j l.best) q l.invariant.2
+    let q : c.loop-j.j ≡ link_count (of chart c.args.roads.now c.args.work.now) c.args.v = omega (arith, c.link_count-count.ensures, c.loop-j.auto.j-end) in
+    rw q at c.loop-j.invariant
 
-pub overflow_sub-result : goal.overflow_sub-result
-overflow_sub-result c =
-    best_some c.requires.walked.1 c.requires.reached c.requires.other (all_seen (goal.at.overflow_sub-result c).After-loop-j)
+pub unwrap-requires : goal.unwrap-requires
+unwrap-requires c =
+    ap is_some (best_some c.requires.walked.1 c.requires.reached c.requires.other (all_seen (goal.at.unwrap-requires c).After-loop-j)).1
 
 pub returns : goal.returns
-returns c = λ a k.
-    best_prior k c.requires.reached c.requires.other (all_seen (goal.at.returns c).After-loop-j)
-
-pub overflow_add-j : goal.overflow_add-j
-overflow_add-j c = omega arith
-
-pub loop-j-smaller : goal.loop-j-smaller
-loop-j-smaller c = omega arith
+returns c = λ a k. best_prior k c.requires.reached c.requires.other (all_seen (goal.at.returns c).After-loop-j) c.unwrap.result c.unwrap.ensures

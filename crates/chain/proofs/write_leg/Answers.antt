@@ -1,10 +1,8 @@
 -- `chain::write_leg` meets its contract. Assumes nothing.
 use Rattle.chain.proofs.write_leg.Goals as goal
 
-pub write_line-requires : goal.write_line-requires
-write_line-requires c =
-    let r = c.requires in
-    rw (c.cell_of-a.ensures, c.cell_of-b.ensures) (r.first, r.second, r.room)
-
 pub returns : goal.returns
-returns c = rw (c.cell_of-a.ensures, c.cell_of-b.ensures) at c.write_line.ensures
+returns c =
+    let a = c.end_of-a.ensures in
+    let b = c.end_of-b.ensures in
+    rw (a.0, a.1, b.0, b.1) at c.write_line.ensures

@@ -12,8 +12,8 @@ use Rattle.chain.proofs.write_route.Given as goal
 abbrev pub invariant-loop-v : goal.invariant-loop-v
 invariant-loop-v l =
     (length l.route ≡ length l.initial.route)
-    × ((places : List ℕ) → Paved l.corners l.t l.work (length l.initial.route) places → Paving l.corners l.t l.work l.initial.route places l.v l.next l.route)
+    × ((places : List ℕ) → Paved l.roads.corners.now l.roads.trip l.work (length l.initial.route) places → Paving l.roads.corners.now l.roads.trip l.work l.initial.route places l.v l.next l.route)
 
 abbrev pub decreases-loop-v : goal.decreases-loop-v
 decreases-loop-v l =
-    get_or (column_of (l.t.k + 2) l.work Label) l.t.to 0 - get_or (column_of (l.t.k + 2) l.work Label) l.v 0
+    get_or (column_of (l.roads.trip.k + 2) l.work Label) l.roads.trip.to 0 - get_or (column_of (l.roads.trip.k + 2) l.work Label) l.v 0

@@ -1,114 +1,65 @@
 -- `corners::chunk_listed` meets its contract: the loop's invariant: the first `to` entries are the turning points among the cells passed. Assumes nothing.
-use Prim.Native.Nat.{ℕ, ◌+◌, ◌*◌, ◌≤◌, ◌<◌}
-use mathlib.Core.Bool.{Bool, true}
-use mathlib.Core.List.{List}
-use mathlib.Core.Path.{◌≡◌, sym, subst, ◌∙◌}
-use native.Mathlib.Nat.{add-zero}
-use native.Mathlib.Omega.{arith}
+use Rattle.std.proofs.Common.{ℕ, ◌+◌, ◌≤◌, ◌<◌, ◌≡◌, Bool, true, List, sym, ◌∙◌, arith}
+use Rattle.floor.specs.Lent.{of}
 use Rattle.corners.specs.Listing.{Read}
 use Rattle.corners.specs.Corners.{corner_cell}
-use Rattle.corners.specs.Chunks.{Chunk, in_row}
-use Rattle.masks.specs.Masks.{Mask}
 use Rattle.corners.proofs.Selects.{select_few}
-use Rattle.corners.proofs.Chunks.{UpTo, chunk_ends, none_between, next_told}
-use Rattle.corners.proofs.Listed.{read_taken, read_none, read_told, refused_told}
+use Rattle.corners.proofs.Chunks.{GoesOn, chunk_ends, all_left, before_next, next_passes, left_after, none_left}
+use Rattle.corners.proofs.Listed.{read_taken, read_none, refused_told}
 use Rattle.corners.proofs.chunk_listed.Goals as goal
-use Rattle.corners.proofs.chunk_listed.Goals.{In-loop-i}
+use Rattle.corners.proofs.chunk_listed.Goals.{In-Some}
 
-pub corner_bits-mask-requires : goal.corner_bits-mask-requires
-corner_bits-mask-requires c =
-    let p = c.requires in
-    (p.ready.0, (p.ready.1.inside, p.ready.1.begins))
+-- what is read stays so where no cell is a turning point
+on : (f : ℕ → Bool) (xs : List ℕ) (k : ℕ) → GoesOn f (λ n. Read f xs n k)
+on f xs k a b s = read_none f xs a k s b
 
 pub loop-i-init : goal.loop-i-init
-loop-i-init c =
-    let a = c.args in
-    record {
-      passed = 0;
-      in_chunk = omega arith;
-      so = subst (λ n. Read (corner_cell a.w a.h a.words.now) a.corners.now n a.k) (sym (add-zero a.cell)) c.requires.before;
-      next = c.next_bit-i.ensures;
-    }
+loop-i-init c = all_left _ _ _ (c.into_iter-i-iterator.ensures.into_iter_gives ∙ c.bits-i-items.ensures) c.corner_bits.ensures c.requires.before
 
--- no cell from those passed to the next bit that is 1 is a turning point
-reach : {w h cell n to i : ℕ} {xs : List ℕ} (f : ℕ → Bool) (mask : ℕ) → Chunk w h cell n → Mask (in_row w f cell) mask →
-    (u : UpTo n mask (λ s. Read f xs (cell + s) to) i) → (e : ℕ) → u.passed ≤ e → e ≤ i → e ≤ n → Read f xs (cell + e) to
-reach {cell = cell} f mask k m u e o p q =
-    read_none f _ _ _ u.so (cell + e) (omega arith)
-    (λ j r. none_between k f mask m _ _ e u.next p q j (omega arith))
-
--- the cell of the next bit is one
-told : (c : In-loop-i) →
-    let a = c.args in
-    corner_cell a.w a.h a.words.now (a.cell + c.loop-i.i) ≡ true
-told c =
-    let a = c.args in
-    next_told c.requires.ready.1 (corner_cell a.w a.h a.words.now) _ c.corner_bits-mask.ensures _ _ c.loop-i.invariant.next c.loop-i-test.true
-
--- where it is reached, those before it are done
-here : (c : In-loop-i) →
-    let a = c.args in
-    let l = c.loop-i in
-    Read (corner_cell a.w a.h a.words.now) a.corners.now (a.cell + l.i) l.to
+-- the turning points before the next one are read
+here : (c : In-Some) → let a = c.args in Read (of corner_cell a.floor.now.grid) a.corners.now (a.cell + c.in-Some.i) c.loop-i.to
 here c =
     let a = c.args in
-    let i = c.loop-i.invariant in
-    reach (corner_cell a.w a.h a.words.now) c.corner_bits-mask.result c.requires.ready.1 c.corner_bits-mask.ensures i c.loop-i.i
-    i.next.low (omega arith) (omega arith)
+    let n = c.in-Some.ensures.steps in
+    before_next c.requires.ready (of corner_cell a.floor.now.grid) _ (on _ _ _) _ c.loop-i.invariant _ n.0 n.1
 
--- it is one of the floor's
-inside : (c : In-loop-i) → let a = c.args in a.cell + c.loop-i.i < a.w * a.h
-inside c = omega (arith, chunk_ends c.requires.ready.1)
+-- its cell is one of the floor's, which are few
+small : (c : In-Some) → c.args.cell + c.in-Some.i < 16384
+small c = omega (arith, chunk_ends c.requires.ready, c.in-Some.ensures.steps.1, c.loop-i.invariant.all, c.args.floor.now.good.few_cells)
 
--- which are few
-small : (c : In-loop-i) → let a = c.args in a.cell + c.loop-i.i < 16384
-small c = omega (arith, inside c, c.requires.ready.0.few_cells)
+-- and it is one
+told : (c : In-Some) → let a = c.args in of corner_cell a.floor.now.grid (a.cell + c.in-Some.i) ≡ true
+told c =
+    let a = c.args in
+    let n = c.in-Some.ensures.steps in
+    next_passes c.requires.ready (of corner_cell a.floor.now.grid) _ (on _ _ _) _ c.loop-i.invariant _ n.0 n.1
 
 -- no more turning points than cells are passed
-few : (c : In-loop-i) → c.loop-i.to ≤ 16384
+few : (c : In-Some) → c.loop-i.to ≤ 16384
 few c =
     let a = c.args in
-    let l = c.loop-i in
-    omega (arith, small c, (here c).count, select_few (corner_cell a.w a.h a.words.now) (a.cell + l.i))
-
-pub loop-i-smaller : goal.loop-i-smaller
-loop-i-smaller c = omega (arith, c.next_bit-i-then-is_entry.ensures.low)
+    omega (arith, small c, (here c).count, select_few (of corner_cell a.floor.now.grid) (a.cell + c.in-Some.i))
 
 pub loop-i-preserved : goal.loop-i-preserved
 loop-i-preserved c =
-    let b = (goal.at.loop-i-preserved c).In-loop-i in
+    let b = (goal.at.loop-i-preserved c).In-Some in
     let a = c.args in
-    let l = c.loop-i in
-    let e : a.cell + l.i + 1 ≡ a.cell + (l.i + 1) = omega arith in
-    record {
-      passed = l.i + 1;
-      in_chunk = omega arith;
-      so = subst (λ n. Read (corner_cell a.w a.h a.words.now) a.corners.now n (l.to + 1)) e
-          (read_taken _ _ _ _ (here b) (told b) (sym c.is_entry.ensures ∙ c.if-is_entry.true));
-      next = c.next_bit-i-then-is_entry.ensures;
-    }
+    let n = c.in-Some.ensures.steps in
+    left_after c.requires.ready (of corner_cell a.floor.now.grid) _ (on _ _ _) _ c.loop-i.invariant _ n.0 n.1 _ _ n.2
+    (read_taken _ _ _ _ (here b) (told b) (sym c.if-not-is_entry.ensures))
 
-pub returns-else-is_entry : goal.returns-else-is_entry
-returns-else-is_entry c =
-    let b = (goal.at.returns-else-is_entry c).In-loop-i in
-    refused_told _ _ _ _ (here b) _ (omega arith) (told b) (sym c.is_entry.ensures ∙ c.if-is_entry.false)
+pub returns-then-not-is_entry : goal.returns-then-not-is_entry
+returns-then-not-is_entry c =
+    let b = (goal.at.returns-then-not-is_entry c).In-Some in
+    refused_told _ _ _ _ (here b) _ (omega (arith, c.in-Some.ensures.steps.1, c.loop-i.invariant.all)) (told b) (sym c.if-not-is_entry.ensures)
 
 pub returns : goal.returns
 returns c =
     let a = c.args in
-    let i = c.loop-i.invariant in
-    read_told _ _ _ _
-    (reach (corner_cell a.w a.h a.words.now) c.corner_bits-mask.result c.requires.ready.1 c.corner_bits-mask.ensures i a.count
-    i.in_chunk (omega arith) (omega arith))
+    none_left c.requires.ready (of corner_cell a.floor.now.grid) _ (on _ _ _) _ c.loop-i.invariant c.in-None.ensures.steps
 
 pub overflow_add-cell : goal.overflow_add-cell
-overflow_add-cell c = omega (arith, small (goal.at.overflow_add-cell c).In-loop-i)
+overflow_add-cell c = omega (arith, small (goal.at.overflow_add-cell c).In-Some)
 
 pub overflow_add-to : goal.overflow_add-to
-overflow_add-to c = omega (arith, few (goal.at.overflow_add-to c).In-loop-i)
-
-pub overflow_add-i : goal.overflow_add-i
-overflow_add-i c = omega (arith, small (goal.at.overflow_add-i c).In-loop-i)
-
-pub next_bit-i-requires-then-is_entry : goal.next_bit-i-requires-then-is_entry
-next_bit-i-requires-then-is_entry c = omega (arith, c.requires.ready.1.few)
+overflow_add-to c = omega (arith, few (goal.at.overflow_add-to c).In-Some)

@@ -1,12 +1,9 @@
 -- `corners::corners_match` meets its contract: the loop's invariant: the first k entries are the turning points among the cells passed. Assumes nothing.
-use Prim.Native.Nat.{◌-◌, ◌*◌, ◌%◌, ◌≤◌}
-use mathlib.Core.Path.{◌≡◌}
+use Rattle.floor.specs.Lent.{of}
 use Rattle.corners.specs.Listing.{Read}
 use Rattle.corners.specs.Corners.{corner_cell}
+use Rattle.corners.proofs.Walks.{Walked}
 use Rattle.corners.proofs.corners_match.Given as goal
 
 abbrev pub invariant-loop-cell : goal.invariant-loop-cell
-invariant-loop-cell l = (l.cell ≤ l.w * l.h) × (l.cell % l.w % 64 ≡ 0) × Read (corner_cell l.w l.h l.words) l.corners l.cell l.k
-
-abbrev pub decreases-loop-cell : goal.decreases-loop-cell
-decreases-loop-cell l = l.w * l.h - l.cell
+invariant-loop-cell l = Walked l.floor.grid.w l.floor.grid.h (λ n. Read (of corner_cell l.floor.grid) l.corners n l.k) l.cell-iterator

@@ -3,26 +3,28 @@ use native.Mathlib.Omega.{arith}
 use Rattle.fields.proofs.Passes.{row_clear, goes_row, end_next, row_ends, linked_far, linked_none, linked_test}
 use Rattle.fields.proofs.linked.Goals as goal
 
-pub returns-then-reach-m : goal.returns-then-reach-m
-returns-then-reach-m c = let p = c.requires in linked_far p.0 p.1.0 _ (row_clear p.0 c.args.m p.1.1) c.if-reach-m.true
+pub returns-then-s-m : goal.returns-then-s-m
+returns-then-s-m c = let p = c.requires in linked_far p.row.0 p.row.1 _ (row_clear p.row.0 c.args.m p.end) c.if-s-m.true
 
 pub returns-then-m-eq0 : goal.returns-then-m-eq0
-returns-then-m-eq0 c = let p = c.requires in linked_none p.0 p.1.0 _ (row_clear p.0 c.args.m p.1.1) c.if-m-eq0.true
+returns-then-m-eq0 c = let p = c.requires in linked_none p.row.0 p.row.1 _ (row_clear p.row.0 c.args.m p.end) c.if-m-eq0.true
 
-pub ahead_of-e-requires : goal.ahead_of-e-requires
-ahead_of-e-requires c = let p = c.requires in goes_row p.0 _ _ (row_clear p.0 c.args.m p.1.1) (omega arith)
+pub ahead_of-end-requires : goal.ahead_of-end-requires
+ahead_of-end-requires c = let p = c.requires in rw c.side_of-dir.ensures (goes_row p.row.0 _ _ (row_clear p.row.0 c.args.m p.end) (omega arith))
 
-pub ahead_of-q-requires : goal.ahead_of-q-requires
-ahead_of-q-requires c = let p = c.requires in goes_row p.0 _ _ (row_clear p.0 c.args.m p.1.1) (omega arith)
+pub ahead_of-before-requires : goal.ahead_of-before-requires
+ahead_of-before-requires c = let p = c.requires in rw c.side_of-dir.ensures (goes_row p.row.0 _ _ (row_clear p.row.0 c.args.m p.end) (omega arith))
 
-pub ends_on_corner-requires : goal.ends_on_corner-requires
-ends_on_corner-requires c =
+pub ends_on_corner-requires-clause-cells : goal.ends_on_corner-requires-clause-cells
+ends_on_corner-requires-clause-cells c =
     let p = c.requires in
-    let k = row_clear p.0 c.args.m p.1.1 in
-    let there = c.ahead_of-e.ensures in
-    (p.0.known, (end_next p.0 _ _ _ _ _ k (omega arith) c.ahead_of-q.ensures there, row_ends p.0 _ _ _ k there))
+    let k = row_clear p.row.0 c.args.m p.end in
+    let dir = c.side_of-dir.ensures in
+    let there = rw dir at c.ahead_of-end.ensures in
+    rw dir (end_next p.row.0 _ _ _ _ _ k (omega arith) (rw dir at c.ahead_of-before.ensures) there, row_ends p.row.0 _ _ _ k there)
 
 pub returns : goal.returns
 returns c =
     let p = c.requires in
-    linked_test p.0 p.1.0 _ (row_clear p.0 c.args.m p.1.1) _ _ _ (omega arith) (omega arith) c.ahead_of-e.ensures c.ends_on_corner.ensures
+    linked_test p.row.0 p.row.1 _ (row_clear p.row.0 c.args.m p.end) _ _ _ (omega arith) (omega arith) (rw c.side_of-dir.ensures at c.ahead_of-end.ensures)
+    c.ends_on_corner.ensures

@@ -1,41 +1,34 @@
 -- `fields::row_end` meets its contract: one law of reading a row for each way that the tests go. Assumes nothing.
-use native.Mathlib.Nat.{le_trans}
 use native.Mathlib.Omega.{arith}
-use Rattle.fields.proofs.Passes.{RowClear, row_entry, row_clear, goes_row, end_in, linked_some, read_turn, read_none}
+use Rattle.floor.specs.Lent.{on}
+use Rattle.fields.proofs.Passes.{RowClear, row_clear, goes_row, end_number, linked_some, read_turn, read_none}
 use Rattle.fields.proofs.row_end.Goals as goal
 use Rattle.fields.proofs.row_end.Goals.{After-clearance-m}
 
-pub clearance-m-requires : goal.clearance-m-requires
-clearance-m-requires c = row_entry c.requires.0
-
 -- what the clearance says
-cleared : (c : After-clearance-m) → let a = c.args in RowClear a.w a.h a.words.now a.s c.clearance-m.result
-cleared c = row_clear c.requires.0 c.clearance-m.result c.clearance-m.ensures
+cleared : (c : After-clearance-m) → let a = c.args in on RowClear a.floor.now.grid a.s c.clearance-m.result
+cleared c = row_clear c.requires.0 c.clearance-m.result (rw c.side_of-dir.ensures at c.clearance-m.ensures)
 
-pub linked-requires : goal.linked-requires
-linked-requires c = (c.requires.0, (c.requires.1, c.clearance-m.ensures))
+pub ahead_of-end-requires : goal.ahead_of-end-requires
+ahead_of-end-requires c =
+    rw c.side_of-dir.ensures (goes_row c.requires.0 _ _ (cleared (goal.at.ahead_of-end-requires c).After-clearance-m) (omega arith))
 
-pub ahead_of-e-requires : goal.ahead_of-e-requires
-ahead_of-e-requires c = goes_row c.requires.0 _ _ (cleared (goal.at.ahead_of-e-requires c).After-clearance-m) (omega arith)
+pub overflow_mul-result : goal.overflow_mul-result
+overflow_mul-result c =
+    omega (arith, end_number c.requires.0 _ _ _ (cleared (goal.at.overflow_mul-result c).After-clearance-m) (rw c.side_of-dir.ensures at c.ahead_of-end.ensures))
 
-pub overflow_sub-open : goal.overflow_sub-open
-overflow_sub-open c = linked_some c.requires.0 c.requires.1 _ (cleared (goal.at.overflow_sub-open c).After-clearance-m) (c.linked.ensures.yes c.if-linked.true)
+pub overflow_add-result : goal.overflow_add-result
+overflow_add-result c =
+    omega (arith, end_number c.requires.0 _ _ _ (cleared (goal.at.overflow_add-result c).After-clearance-m) (rw c.side_of-dir.ensures at c.ahead_of-end.ensures))
 
-pub named-requires : goal.named-requires
-named-requires c =
-    let sized = c.requires.0.known.floor.sized in
-    let cell = end_in c.requires.0 _ _ _ (cleared (goal.at.named-requires c).After-clearance-m) c.ahead_of-e.ensures in
-    (sized.wide, le_trans cell.0 sized.wide, le_trans cell.1 sized.high)
+pub overflow_sub-result : goal.overflow_sub-result
+overflow_sub-result c = linked_some c.requires.0 c.requires.1 _ (cleared (goal.at.overflow_sub-result c).After-clearance-m) (c.linked.ensures.yes c.if-linked.true)
 
 pub returns-then-linked : goal.returns-then-linked
 returns-then-linked c =
-    read_turn c.requires.0 c.requires.1 _ (cleared (goal.at.returns-then-linked c).After-clearance-m) _ _ _ (c.linked.ensures.yes c.if-linked.true)
-    c.ahead_of-e.ensures c.named.ensures
+    read_turn c.requires.0 c.requires.1 _ (cleared (goal.at.returns-then-linked c).After-clearance-m) _ _ (c.linked.ensures.yes c.if-linked.true)
+    (rw c.side_of-dir.ensures at c.ahead_of-end.ensures)
 
-pub returns-then-m-reach : goal.returns-then-m-reach
-returns-then-m-reach c =
-    read_none c.requires.0 c.requires.1 _ (cleared (goal.at.returns-then-m-reach c).After-clearance-m) _ (c.linked.ensures.no c.if-linked.false) (omega arith)
-
-pub returns-else-m-reach : goal.returns-else-m-reach
-returns-else-m-reach c =
-    read_none c.requires.0 c.requires.1 _ (cleared (goal.at.returns-else-m-reach c).After-clearance-m) _ (c.linked.ensures.no c.if-linked.false) (omega arith)
+pub returns : goal.returns
+returns c =
+    read_none c.requires.0 c.requires.1 _ (cleared (goal.at.returns c).After-clearance-m) _ (c.linked.ensures.no c.if-linked.false) (omega arith)

@@ -1,7 +1,6 @@
 -- `fields::slants` meets its contract: the three places that a diagonal step asks, one clearance each. Assumes nothing.
 use native.Mathlib.Omega.{arith}
 use Rattle.fields.specs.Fields.{OnSome}
-use Rattle.fields.proofs.Aheads.{row_of_free}
 use Rattle.fields.proofs.Clears.{ways, entry_in, no_across, no_along, Along, along_cell, by_target}
 use Rattle.fields.proofs.slants.Goals as goal
 use Rattle.fields.proofs.slants.Goals.{Else-clearance-eq0-2}
@@ -25,16 +24,11 @@ returns-then-clearance-eq0-2 c o = grind (arith, no_across o _ c.requires.1, no_
 -- the cell along, on any floor that has these clearances
 cell_along : (c : Else-clearance-eq0-2) →
     let a = c.args in
-    (o : OnSome a.w a.clear.now a.x a.y) → Along o a.field c.requires.1
+    (o : OnSome a.w a.clear.now a.cell.x a.cell.y) → Along o a.field c.requires.1
 cell_along c o = along_cell o _ _ (omega arith)
 
-pub overflow_add-y : goal.overflow_add-y
-overflow_add-y c =
-    let on = c.requires.0 in
-    omega (arith, row_of_free _ _ _ _ _ on.free, on.known.floor.sized.high)
-
-pub overflow_sub-y : goal.overflow_sub-y
-overflow_sub-y c = (cell_along (goal.at.overflow_sub-y c).Else-clearance-eq0-2 c.requires.0).some_row
+pub overflow_sub-beside : goal.overflow_sub-beside
+overflow_sub-beside c = (cell_along (goal.at.overflow_sub-beside c).Else-clearance-eq0-2 c.requires.0).some_row
 
 pub clearance-requires-3 : goal.clearance-requires-3
 clearance-requires-3 c =

@@ -1,13 +1,15 @@
 -- `floor::free_in` meets its contract: one law of `free_in` for each way out. Assumes nothing.
-use mathlib.Core.Path.{◌∙◌}
+use Rattle.std.proofs.Common.{◌∙◌, arith}
+use Rattle.std.proofs.lemmas.Grind.{common_steps}
 use Rattle.floor.proofs.Places.{free_in_zero, free_in_past, free_in_inside}
 use Rattle.floor.proofs.free_in.Goals as goal
+use Rattle.floor.proofs.free_in.Goals.{then-x-ne0, else-x-ne0}
 
-pub returns-then-x-eq0 : goal.returns-then-x-eq0
-returns-then-x-eq0 c = free_in_zero _ _ _ c.if-x-eq0.true
+pub returns-then-x-w : goal.returns-then-x-w
+returns-then-x-w c = c.cell_free.ensures ∙ free_in_inside _ _ _ (omega arith) (omega arith)
 
-pub returns-then-w-x : goal.returns-then-w-x
-returns-then-w-x c = free_in_past _ _ _ c.if-w-x.true
-
-pub returns : goal.returns
-returns c = c.cell_free.ensures ∙ free_in_inside _ _ _ c.if-x-eq0.false c.if-w-x.false
+pub returns-else-x-w : goal.returns-else-x-w
+returns-else-x-w c = elim c.if-x-ne0.branch [
+  | then-x-ne0 w ↦ grind (arith, common_steps, free_in_zero, free_in_past)
+  | else-x-ne0 w ↦ grind (arith, common_steps, free_in_zero, free_in_past)
+]

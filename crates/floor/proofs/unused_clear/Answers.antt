@@ -1,26 +1,20 @@
--- `floor::unused_clear` meets its contract: the loop's invariant: no row passed has a 0 past its cells. Assumes nothing.
-use native.Mathlib.Omega.{arith}
-use borrow.Author.Rules.{rules}
-use borrow.Author.Count.{below_none, below_more}
+-- `floor::unused_clear` meets its contract: the rows are looked at up to the first that has a 0 past its cells. Assumes nothing.
+use Rattle.std.proofs.Common.{◌-◌, refl, rules}
+use borrow.Author.Tests.{tests}
+use Rattle.std.proofs.lemmas.Iterator.{cases_from_any, YieldsList-from_range}
+use Rattle.floor.specs.Words.{RestClear, row_of}
+use Rattle.floor.proofs.Places.{is_row}
+use Rattle.floor.proofs.Ranges.{tells_any}
 use Rattle.floor.proofs.Rests.{row_clear, row_used}
-use Rattle.floor.proofs.Tables.{found, missing}
 use Rattle.floor.proofs.unused_clear.Goals as goal
 
-pub loop-y-init : goal.loop-y-init
-loop-y-init c = below_none _
-
-pub returns-then-rest_clear : goal.returns-then-rest_clear
-returns-then-rest_clear c =
-    found
-    (row_clear _ _ _ c.loop-y.y _ c.row_of.ensures (search rules)
-    (c.rest_clear.ensures.yes c.if-rest_clear.true))
-
-pub loop-y-preserved : goal.loop-y-preserved
-loop-y-preserved c =
-    let a = c.args in
-    below_more _ _ c.loop-y.invariant
-    (row_used a.w a.h a.words.now c.loop-y.y _ c.row_of.ensures
-    (c.rest_clear.ensures.no c.if-rest_clear.false))
-
 pub returns : goal.returns
-returns c = missing (λ u. c.loop-y.invariant u.row (omega arith) u.bit u.unused u.bit_in u.clear)
+returns c =
+    let g = c.args.grid.now in
+    tells_any 0 g.h (λ y. RestClear g.w (row_of g.w g.words.now y)) (λ y. ¬ (RestClear g.w (row_of g.w g.words.now y)))
+    (λ y p q e. row_clear _ _ _ y _ (is_row _ g.h y _ g.sized.counted q) q e)
+    (λ n u. row_used _ g.h _ u.row _ (is_row _ g.h u.row _ g.sized.counted u.row_in) (n u.row (search rules) u.row_in) u.bit u.unused u.bit_in u.clear)
+    c.any.result
+    (cases_from_any _ _ _ (λ y. RestClear g.w (row_of g.w g.words.now y)) (λ y. ¬ (RestClear g.w (row_of g.w g.words.now y))) c.any.ensures.ran
+    (YieldsList-from_range 0 g.h (g.h - 0) (search rules) refl)
+    (λ x q k. search (rules, tests)) (λ x q k. search (rules, tests)))

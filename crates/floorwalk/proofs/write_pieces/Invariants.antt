@@ -7,7 +7,7 @@ use Rattle.replying.proofs.Pieces.{left_of}
 use Rattle.floorwalk.proofs.write_pieces.Given as goal
 
 abbrev pub invariant-loop-spot : goal.invariant-loop-spot
-invariant-loop-spot l = (l.spot.last ≡ false → Begins l.text l.spot) × PieceRoom l.route l.work l.out l.spot.used
+invariant-loop-spot l = (l.spot.last ≡ false → Begins l.input.text.now l.spot) × PieceRoom l.route l.work l.out l.spot.used
 
 abbrev pub decreases-loop-spot : goal.decreases-loop-spot
-decreases-loop-spot l = left_of l.text l.spot
+decreases-loop-spot l = left_of l.input.text.now l.spot

@@ -23,4 +23,4 @@ rule = offset_pair Rule (search rules) (search rules) (search rules) (search rul
 pub returns : goal.returns
 returns c =
     let a = c.args in
-    rw (c.side.ensures.0, c.side-2.ensures.0) (rule (toward (suc a.x) (suc a.u)) (toward (suc a.y) (suc a.v)))
+    rw (c.side.ensures.0, c.side-2.ensures.0) (rule (toward (suc a.from.x) (suc a.to.x)) (toward (suc a.from.y) (suc a.to.y)))

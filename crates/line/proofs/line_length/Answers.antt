@@ -4,4 +4,4 @@ use Rattle.line.proofs.Firsts.{octile_cells}
 use Rattle.line.proofs.line_length.Goals as goal
 
 pub returns : goal.returns
-returns c = c.octile.ensures ∙ octile_cells _ _ _ _ _ _ c.apart.ensures c.apart-2.ensures
+returns c = c.octile.ensures ∙ octile_cells _ _ _ _ _ _ c.apart-dx.ensures c.apart-dy.ensures

@@ -1,17 +1,13 @@
--- `line::write_line` meets its contract: the loop's invariant: with the rest of the line written the list will be as it has to be.
+-- `line::write_line` meets its contract: the loop's invariant: with the rest of the line written the entries will be as they have to be.
 -- Assumes nothing.
-use Prim.Native.Nat.{◌+◌, ◌-◌}
-use mathlib.Core.Path.{◌≡◌}
-use lib.ListN.{length}
+use Rattle.std.proofs.Common.{◌≡◌, ◌+◌}
 use Rattle.floor.specs.Board.{at}
 use Rattle.line.specs.Cells.{steps, Cell}
 use Rattle.line.proofs.Runs.{filled}
 use Rattle.line.proofs.write_line.Given as goal
 
-abbrev pub invariant-loop-done : goal.invariant-loop-done
-invariant-loop-done l =
-    Cell l.w l.column l.row × (l.done + steps (at l.column l.row) (at l.u l.v) ≡ l.n) × (length l.route ≡ length l.initial.route) ×
-    (filled l.w (at l.u l.v) (at l.column l.row) l.route (l.from + l.done) (l.from + l.n) ≡ filled l.w (at l.u l.v) (at l.x l.y) l.initial.route l.from (l.from + l.n))
-
-abbrev pub decreases-loop-done : goal.decreases-loop-done
-decreases-loop-done l = l.n - l.done
+abbrev pub invariant-loop-entry : goal.invariant-loop-entry
+invariant-loop-entry l =
+    Cell l.w l.here.x l.here.y × (l.entry-index + steps (at l.here.x l.here.y) (at l.to.x l.to.y) ≡ l.n) ×
+    (filled l.w (at l.to.x l.to.y) (at l.here.x l.here.y) l.entry-items l.entry-index l.n
+    ≡ filled l.w (at l.to.x l.to.y) (at l.fn.from.x l.fn.from.y) l.initial.entry-items 0 l.n)

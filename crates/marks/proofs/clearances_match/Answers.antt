@@ -1,26 +1,22 @@
--- `marks::clearances_match` meets its contract: the loop's invariant: each entry of the directions passed is what the next one makes it. Assumes nothing.
-use native.Mathlib.Omega.{arith}
-use borrow.Author.Count.{below_none, below_more}
-use Rattle.floor.proofs.Tables.{found, missing}
+-- `marks::clearances_match` meets its contract: a list is right where all directions agree. Assumes nothing.
+use Rattle.std.proofs.Common.{◌*◌, refl, rules}
+use borrow.Author.Tests.{tests}
+use Rattle.std.proofs.lemmas.Iterator.{cases_from_all, YieldsList-from_range}
+use Rattle.floor.specs.Lent.{on}
+use Rattle.marks.specs.Marking.{WayAgrees}
 use Rattle.marks.proofs.Orders.{agreeing_cleared, cleared_agrees}
+use Rattle.marks.proofs.Marked.{tells_all}
 use Rattle.marks.proofs.clearances_match.Goals as goal
 
-pub loop-dir-init : goal.loop-dir-init
-loop-dir-init c = below_none _
-
-pub way_matches-requires : goal.way_matches-requires
-way_matches-requires c =
-    let p = c.requires in
-    (p.0, (omega (arith, p.1), omega arith))
-
-pub loop-dir-preserved : goal.loop-dir-preserved
-loop-dir-preserved c = below_more _ _ c.loop-dir.invariant (c.way_matches.ensures.yes c.if-way_matches.true)
-
-pub returns-else-way_matches : goal.returns-else-way_matches
-returns-else-way_matches c =
-    let a = c.args in
-    missing (λ s. c.way_matches.ensures.no c.if-way_matches.false
-    (λ k l. cleared_agrees a.w a.h a.words.now a.clear.now s k c.loop-dir.dir l (omega arith)))
-
 pub returns : goal.returns
-returns c = found (agreeing_cleared _ _ _ _ (λ k d l m. c.loop-dir.invariant d (omega arith) k l))
+returns c =
+    let g = c.args.floor.now.grid in
+    let clear = c.args.clear.now in
+    let told = tells_all 4 (λ d. on WayAgrees g clear d (g.w * g.h)) c.all.result
+    (cases_from_all _ _ _ (λ d. on WayAgrees g clear d (g.w * g.h)) (λ d. ¬ (on WayAgrees g clear d (g.w * g.h))) c.all.ensures.ran
+    (YieldsList-from_range 0 4 4 refl refl)
+    (λ x q k. search (rules, tests)) (λ x q k. search (rules, tests))) in
+    record {
+      yes = λ e. agreeing_cleared _ _ _ _ (λ k d l m. told.yes e d m k l);
+      no = λ e s. told.no e (λ d m k l. cleared_agrees _ _ _ clear s k d l m);
+    }

@@ -4,11 +4,5 @@ use mathlib.Core.Path.{ap₂, ◌∙◌}
 use Rattle.masks.proofs.Bits.{and_bit}
 use Rattle.masks.proofs.step_mask.Goals as goal
 
-pub free_mask-requires : goal.free_mask-requires
-free_mask-requires c = c.requires.0
-
-pub free_beside-requires : goal.free_beside-requires
-free_beside-requires c = c.requires
-
 pub returns : goal.returns
-returns c i l = and_bit c.free_mask.result _ i ∙ ap₂ ◌&&◌ (c.free_mask.ensures i l) (c.free_beside.ensures i l)
+returns c i l = and_bit c.free_mask.result _ i ∙ ap₂ ◌&&◌ (c.free_mask.ensures i l) (c.beside.ensures i l)

@@ -1,44 +1,35 @@
 -- `matching::tally_field` meets its contract: the loop's invariant: what the rows passed show is listed and counted. Assumes nothing.
-use native.Mathlib.Omega.{arith}
-use Rattle.plan.proofs.Sweeping.{few_shown, row_ready, passed_fewer}
-use Rattle.matching.proofs.Tallying.{tallied_room, tallying_begin, tallying_next, tallying_missing, tallying_end}
+use Rattle.fields.proofs.Rowed.{rows_begin, row_passed, rows_on}
+use Rattle.plan.proofs.Sweeping.{few_shown, none_passed}
+use Rattle.matching.proofs.Tallying.{tallying_end, tallying_next, tallying_missing, tallied_room}
 use Rattle.matching.proofs.tally_field.Goals as goal
 
-pub nonzero_rem-sx : goal.nonzero_rem-sx
-nonzero_rem-sx c = c.requires.ready.0.known.floor.some_width
+pub loop-shown-init : goal.loop-shown-init
+loop-shown-init c =
+    rows_begin _ _ _ c.into_iter-shown-iterator.ensures.into_iter_gives c.rows-shown-items.ensures.same
+    (λ o l. record { tallied = c.requires.before; sweep = none_passed o l })
 
-pub nonzero_div-sy : goal.nonzero_div-sy
-nonzero_div-sy c = c.requires.ready.0.known.floor.some_width
-
-pub loop-reach-init : goal.loop-reach-init
-loop-reach-init c = let p = c.requires in tallying_begin _ _ _ _ _ p.ready.0 p.before
-
-pub pass_row-e-requires : goal.pass_row-e-requires
-pass_row-e-requires c =
-    let p = c.requires in
-    row_ready c.loop-reach.invariant.sweep p.ready.0 p.ready.1 c.loop-reach-test.true
-
-pub tally_shown-tallied-requires : goal.tally_shown-tallied-requires
-tally_shown-tallied-requires c =
-    let p = c.requires in
+pub tally_shown-requires : goal.tally_shown-requires
+tally_shown-requires c =
+    let i = c.loop-shown.invariant in
     record {
-      part = p.part;
-      small = (few_shown _ _ p.ready.0.known.floor.few_cells _ c.pass_row-e.ensures.said, tallied_room _ _ _ _ _ _ _ p.part c.loop-reach.invariant.tallied);
+      rising = c.requires.rising;
+      small = (
+        few_shown _ _ c.args.floor.now.good.few_cells _ (row_passed i c.in-Some.ensures.steps).said,
+        tallied_room _ _ _ _ _ c.requires.rising i.so.tallied,
+      );
     }
 
-pub returns-in_default : goal.returns-in_default
-returns-in_default c = tallying_missing _ _ _ _ _ c.loop-reach.invariant c.requires.ready.1 c.pass_row-e.ensures c.in_default.ensures
+pub returns-in_err-sum : goal.returns-in_err-sum
+returns-in_err-sum c =
+    let i = c.loop-shown.invariant in
+    rw c.from_residual.ensures (tallying_missing _ _ _ _ _ i.so c.requires.ready.1 (row_passed i c.in-Some.ensures.steps) c.in_err-sum.ensures)
 
-pub overflow_add-row : goal.overflow_add-row
-overflow_add-row c =
-    let few = (c.loop-reach.invariant.sweep.come c.loop-reach-test.true).0 in
-    omega arith
-
-pub loop-reach-smaller : goal.loop-reach-smaller
-loop-reach-smaller c = passed_fewer c.loop-reach.invariant.sweep c.loop-reach-test.true
-
-pub loop-reach-preserved : goal.loop-reach-preserved
-loop-reach-preserved c = tallying_next _ _ _ _ _ c.loop-reach.invariant c.requires.ready.1 c.pass_row-e.ensures _ c.in-Of.ensures
+pub loop-shown-preserved : goal.loop-shown-preserved
+loop-shown-preserved c =
+    let i = c.loop-shown.invariant in
+    let n = c.in-Some.ensures.steps in
+    rows_on i n _ (tallying_next _ _ _ _ _ i.so c.requires.ready.1 (row_passed i n) _ c.in_ok-sum.ensures)
 
 pub returns : goal.returns
-returns c = tallying_end _ _ _ _ _ c.loop-reach.invariant c.loop-reach-test.false
+returns c = tallying_end _ _ _ _ _ c.loop-shown.invariant.so c.in-None.ensures.steps

@@ -1,98 +1,55 @@
 -- `offers::follow_arcs` meets its contract. Assumes nothing.
 use native.Mathlib.Omega.{arith}
 use mathlib.Core.Path.{◌≡◌, refl, sym, ◌∙◌}
+use Prim.Native.Nat.{◌+◌, ◌<◌}
+use lib.ListN.{get_or}
+use Rattle.places.specs.Chart.{arcs_of}
 use Rattle.places.proofs.Told.{told_corner, told_end}
-use Rattle.places.proofs.Charts.{arc_within, arc_entry, arc_place, arc_cells}
-use Rattle.offers.proofs.Follows.{ready_room, followed_none, following_first, following_more, arc_followed}
+use Rattle.places.proofs.Charts.{arc_entry, arc_place, arc_cells}
+use Rattle.offers.proofs.Follows.{followed_none, following_first, following_more, arc_followed}
 use Rattle.offers.proofs.follow_arcs.Goals as goal
+use Rattle.offers.proofs.follow_arcs.Goals.{After-from-b}
 
-pub returns-then-t-u : goal.returns-then-t-u
-returns-then-t-u c =
-    let a = c.args in
-    rw (told_end a.corners.now a.starts.now a.neighbours.now a.t a.work.now a.u (omega arith)) (followed_none _ _ c.requires.right)
+pub returns-then-roads-u : goal.returns-then-roads-u
+returns-then-roads-u c =
+    let r = c.args.roads.now in
+    rw (told_end r.corners.now r.starts.now r.neighbours.now r.trip c.args.work.now c.args.u (omega arith)) (followed_none _ _ c.requires.right)
 
-pub cell_of-a-requires : goal.cell_of-a-requires
-cell_of-a-requires c = c.requires.ready.fair.corners
+-- there is such an arc
+there : (c : After-from-b) → c.loop-c.c-index < arcs_of c.args.roads.now.starts.now c.args.u
+there c = omega (arith, c.neighbours_of-near.ensures.count)
 
-pub offset_bounds-starts-u : goal.offset_bounds-starts-u
-offset_bounds-starts-u c = omega (arith, c.requires.ready.fair.rows.starts)
+-- the cell that it leads to
+cell : (c : After-from-b) → c.from-b.result ≡ get_or c.args.roads.now.neighbours.now (get_or c.args.roads.now.starts.now c.args.u 0 + c.loop-c.c-index) 0
+cell c = c.from-b.ensures ∙ c.neighbours_of-near.ensures.each c.loop-c.c-index (there c)
 
-pub bounds-starts-u : goal.bounds-starts-u
-bounds-starts-u c = omega (arith, c.requires.ready.fair.rows.starts)
-
-pub arc_count-count-requires : goal.arc_count-count-requires
-arc_count-count-requires c =
-    let rows = c.requires.ready.fair.rows in
-    record { inside = omega (arith, rows.starts); rising = rows.rising c.args.u (omega arith) }
-
-pub loop-j-init : goal.loop-j-init
-loop-j-init c = (omega arith, following_first refl c.requires.ready c.requires.right)
-
-pub overflow_add-first : goal.overflow_add-first
-overflow_add-first c = omega (arith, c.wide-first.ensures.bounded, c.arc_count-count.ensures.bounded)
-
-pub offset_bounds-neighbours-first : goal.offset_bounds-neighbours-first
-offset_bounds-neighbours-first c = omega (arith, c.wide-first.ensures.bounded, c.arc_count-count.ensures.bounded)
-
-pub bounds-neighbours-first : goal.bounds-neighbours-first
-bounds-neighbours-first c =
-    rw c.wide-first.ensures.same
-    (arc_within c.args.u c.loop-j.j c.loop-j.invariant.1.ready c.requires.indexed (omega arith) (omega (arith, c.arc_count-count.ensures.arcs)))
-
-pub offset_bounds-table-b : goal.offset_bounds-table-b
-offset_bounds-table-b c = omega (arith, c.wide-b.ensures.bounded)
-
-pub bounds-table-b : goal.bounds-table-b
-bounds-table-b c =
-    let b = rw c.wide-first.ensures.same at c.wide-b.ensures.same in
-    rw b (arc_entry c.args.u c.loop-j.j c.loop-j.invariant.1.ready c.requires.indexed (omega arith) (omega (arith, c.arc_count-count.ensures.arcs)))
+pub bounds-roads-b : goal.bounds-roads-b
+bounds-roads-b c =
+    let s = (goal.at.bounds-roads-b c).After-from-b in
+    rw (cell s) (arc_entry c.args.u c.loop-c.c-index c.loop-c.invariant.ready c.args.roads.now.indexed (omega arith) (there s))
 
 pub leg-far-requires : goal.leg-far-requires
 leg-far-requires c =
-    let b = rw c.wide-first.ensures.same at c.wide-b.ensures.same in
-    rw (c.cell_of-a.ensures, b)
-    (arc_cells c.args.u c.loop-j.j c.loop-j.invariant.1.ready c.requires.indexed (omega arith) (omega (arith, c.arc_count-count.ensures.arcs)))
+    let s = (goal.at.leg-far-requires c).After-from-b in
+    rw (c.cell_of-a.ensures, cell s) (arc_cells c.args.u c.loop-c.c-index c.loop-c.invariant.ready c.args.roads.now.indexed (omega arith) (there s))
 
-pub overflow_add-d : goal.overflow_add-d
-overflow_add-d c = omega (arith, c.leg-far.ensures.bounded, c.requires.short.1)
+pub offer-requires-clause-inside : goal.offer-requires-clause-inside
+offer-requires-clause-inside c =
+    let s = (goal.at.offer-requires-clause-inside c).After-from-b in
+    let v = rw (cell s) at c.from-v.ensures in
+    rw v (arc_place c.args.u c.loop-c.c-index c.loop-c.invariant.ready c.args.roads.now.indexed (omega arith) (there s))
 
-pub offer-requires : goal.offer-requires
-offer-requires c =
-    let f = c.loop-j.invariant.1 in
-    let b = rw c.wide-first.ensures.same at c.wide-b.ensures.same in
-    let v = rw b at c.wide-v.ensures.same in
-    record {
-      room = ready_room f.ready;
-      right = f.right;
-      inside =
-          rw v (arc_place c.args.u c.loop-j.j f.ready c.requires.indexed (omega arith) (omega (arith, c.arc_count-count.ensures.arcs)));
-      some = omega (arith, c.requires.short.0);
-    }
-
-pub overflow_add-j : goal.overflow_add-j
-overflow_add-j c = omega arith
-
-pub loop-j-smaller : goal.loop-j-smaller
-loop-j-smaller c = omega arith
-
-pub loop-j-preserved : goal.loop-j-preserved
-loop-j-preserved c =
-    let b = rw c.wide-first.ensures.same at c.wide-b.ensures.same in
-    let l =
-    arc_followed c.args.u c.loop-j.j c.loop-j.invariant.1.ready c.requires.indexed (omega arith) (omega (arith, c.arc_count-count.ensures.arcs))
-    c.cell_of-a.ensures b c.wide-v.ensures.same c.leg-far.ensures.apart c.offer.ensures in
-    (omega arith, following_more c.loop-j.invariant.1 c.requires.short.0 l)
-
-pub shape_of-work : goal.shape_of-work
-shape_of-work c = c.loop-j.invariant.1.sized
-
-pub shape_of-tree : goal.shape_of-tree
-shape_of-tree c = c.loop-j.invariant.1.tree
+pub loop-c-preserved : goal.loop-c-preserved
+loop-c-preserved c =
+    let s = (goal.at.loop-c-preserved c).After-from-b in
+    let f = c.loop-c.invariant in
+    following_more f c.requires.short.0
+    (arc_followed c.args.u c.loop-c.c-index f.ready c.args.roads.now.indexed (omega arith) (there s)
+    c.cell_of-a.ensures (cell s) c.from-v.ensures c.leg-far.ensures.apart c.offer.ensures)
 
 pub returns : goal.returns
 returns c =
-    let a = c.args in
-    let f = c.loop-j.invariant in
-    let q : c.loop-j.j ≡ c.arc_count-count.result = omega (arith, f.0) in
-    let z = told_corner a.corners.now a.starts.now a.neighbours.now a.t a.work.now a.u (omega arith) in
-    rw (q ∙ c.arc_count-count.ensures.arcs ∙ sym z) at (f.1.followed _ _ (followed_none _ _ c.requires.right))
+    let r = c.args.roads.now in
+    let q : c.loop-c.c-index ≡ arcs_of r.starts.now c.args.u = omega (arith, c.neighbours_of-near.ensures.count, c.loop-c.auto.c-index-end) in
+    let z = told_corner r.corners.now r.starts.now r.neighbours.now r.trip c.args.work.now c.args.u (omega arith) in
+    rw (q ∙ sym z) at (c.loop-c.invariant.followed _ _ (followed_none _ _ c.requires.right))

@@ -6,8 +6,5 @@ use Rattle.offers.proofs.lowered.Goals as goal
 pub returns-then-old-eq0 : goal.returns-then-old-eq0
 returns-then-old-eq0 c = rw (le-ltb 0 c.args.old (omega arith))
 
-pub returns-then-new-old : goal.returns-then-new-old
-returns-then-new-old c = rw (lt-ltb 0 c.args.old (omega arith)) (omega arith)
-
-pub returns : goal.returns
-returns c = rw (lt-ltb 0 c.args.old (omega arith)) (omega arith)
+pub returns-else-old-eq0 : goal.returns-else-old-eq0
+returns-else-old-eq0 c = rw (lt-ltb 0 c.args.old (omega arith)) (omega arith)

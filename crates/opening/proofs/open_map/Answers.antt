@@ -12,7 +12,7 @@ use Rattle.reading.proofs.Floors.{few_words}
 use Rattle.opening.specs.Openings.{MapAt, bad_row}
 use Rattle.opening.proofs.Sites.{input_short, opened}
 use Rattle.opening.proofs.open_map.Goals as goal
-use Rattle.opening.proofs.open_map.Goals.{After-row_words, In-All}
+use Rattle.opening.proofs.open_map.Goals.{After-row_words, In-Ok}
 
 -- the rows of accepted sizes take at most 512 words
 few : (w h : ℕ) → ¬ (SizeRefused w h) → h * row_words w ≤ 512
@@ -24,26 +24,17 @@ read_rows-requires c =
     let f = fits _ _ s.accepted in
     (f.wide, (f.high, ((pair_inside _ _ _ _ _ _ s.line).1, omega (arith, few _ _ s.accepted, c.requires.1.words_size))))
 
-pub overflow_add-y : goal.overflow_add-y
-overflow_add-y c = omega (arith, c.in-Bad.ensures.0, (fits _ _ c.requires.0.accepted).high)
-
 -- the refusal of row y is short
 refusal : (y h : ℕ) → y < h → h ≤ 255 → length (input_refused (y + 2)) ≤ 43
 refusal y h l m = input_short (y + 2) (omega arith)
 
 pub put_input_refused-requires : goal.put_input_refused-requires
 put_input_refused-requires c =
-    omega (arith, refusal c.in-Bad.y c.args.h c.in-Bad.ensures.0 (fits _ _ c.requires.0.accepted).high, c.requires.1.out_size)
-
-pub row_words-requires : goal.row_words-requires
-row_words-requires c = (fits _ _ c.requires.0.accepted).wide
+    omega (arith, refusal c.in-Err.bad.row c.args.h c.in-Err.ensures.0 (fits _ _ c.requires.0.accepted).high, c.requires.1.out_size)
 
 -- the map's words are within those lent
 count : (c : After-row_words) → c.args.h * c.row_words.result ≤ 512
 count c = rw c.row_words.ensures (few _ _ c.requires.0.accepted)
-
-pub overflow_mul-n : goal.overflow_mul-n
-overflow_mul-n c = omega (arith, count (goal.at.overflow_mul-n c).After-row_words)
 
 pub slice_bounds-survey_floor-end : goal.slice_bounds-survey_floor-end
 slice_bounds-survey_floor-end c =
@@ -53,8 +44,8 @@ slice_bounds-survey_floor-end c =
 counted : (c : After-row_words) → let n = c.args.h * c.row_words.result in length (take n c.read_rows.new.floor) ≡ n
 counted c = length-take-le _ _ (omega (arith, count c, c.read_rows.auto.floor, c.requires.1.words_size))
 
-pub slice_bounds-survey_floor-end-in-All : goal.slice_bounds-survey_floor-end-in-All
-slice_bounds-survey_floor-end-in-All c = sym (counted (goal.at.slice_bounds-survey_floor-end-in-All c).After-row_words)
+pub slice_bounds-survey_floor-end-in-Ok : goal.slice_bounds-survey_floor-end-in-Ok
+slice_bounds-survey_floor-end-in-Ok c = sym (counted (goal.at.slice_bounds-survey_floor-end-in-Ok c).After-row_words)
 
 pub survey_floor-requires : goal.survey_floor-requires
 survey_floor-requires c =
@@ -67,10 +58,10 @@ survey_floor-requires c =
       out_size = omega (arith, c.requires.1.out_size);
     }
 
-pub returns-in-Bad : goal.returns-in-Bad
-returns-in-Bad c =
-    let u = c.in-Bad.ensures in
-    let y = c.in-Bad.y in
+pub returns-in-Err : goal.returns-in-Err
+returns-in-Err c =
+    let u = c.in-Err.ensures in
+    let y = c.in-Err.bad.row in
     let a = c.args in
     record {
       bytes = input_refused (y + 2);
@@ -80,15 +71,15 @@ returns-in-Bad c =
     }
 
 -- they are 64-bit words
-wide : (c : In-All) (i : ℕ) → get_or c.read_rows.new.floor i 0 < 2 ^ 64
+wide : (c : In-Ok) (i : ℕ) → get_or c.read_rows.new.floor i 0 < 2 ^ 64
 wide c i = omega (arith, c.type_inv.words i)
 
-pub returns-in-All : goal.returns-in-All
-returns-in-All c =
-    let u = c.in-All.ensures in
+pub returns-in-Ok : goal.returns-in-Ok
+returns-in-Ok c =
+    let u = c.in-Ok.ensures in
     let a = c.args in
     let words = c.read_rows.new.floor in
-    let m : MapAt a.text.now a.w a.h c.in-All.next (take (a.h * row_words a.w) words)
+    let m : MapAt a.text.now a.w a.h c.in-Ok.next (take (a.h * row_words a.w) words)
     = record {
       from = a.from;
       sizes = c.requires.0;
@@ -96,7 +87,7 @@ returns-in-All c =
       after = _;
       filled = u.1;
       room = omega (arith, few _ _ c.requires.0.accepted, c.read_rows.auto.floor, c.requires.1.words_size);
-      wide = wide (goal.at.returns-in-All c).In-All;
+      wide = wide (goal.at.returns-in-Ok c).In-Ok;
       cut = refl;
       ends = u.0;
     } in

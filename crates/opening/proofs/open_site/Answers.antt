@@ -5,29 +5,26 @@ use Rattle.opening.specs.Openings.{no_sizes, bad_sizes}
 use Rattle.opening.proofs.Sites.{survey_short, input_short}
 use Rattle.opening.proofs.open_site.Goals as goal
 
-pub put_input_refused-requires : goal.put_input_refused-requires
-put_input_refused-requires c = omega (arith, input_short 1 (omega arith), c.requires.out_size)
+pub put_input_refused-used-requires : goal.put_input_refused-used-requires
+put_input_refused-used-requires c = omega (arith, input_short 1 (omega arith), c.requires.out_size)
 
 pub returns-in_default : goal.returns-in_default
 returns-in_default c =
     record {
       bytes = input_refused 1;
       turned = no_sizes c.in_default.ensures;
-      put = c.put_input_refused.ensures;
-      short = omega (arith, input_short 1 (omega arith), c.put_input_refused.ensures.ends);
+      put = c.put_input_refused-used.ensures;
+      short = omega (arith, input_short 1 (omega arith), c.put_input_refused-used.ensures.ends);
     }
 
-pub put_survey_refused-requires : goal.put_survey_refused-requires
-put_survey_refused-requires c = omega (arith, survey_short 1 (omega arith), c.requires.out_size)
+pub put_survey_refused-used-requires : goal.put_survey_refused-used-requires
+put_survey_refused-used-requires c = omega (arith, survey_short 1 (omega arith), c.requires.out_size)
 
 pub returns-then-size_refused : goal.returns-then-size_refused
 returns-then-size_refused c =
     record {
       bytes = survey_refused 1;
-      turned = bad_sizes c.in-Line.w c.in-Line.h c.in-Line.from c.in-Line.ensures (c.size_refused.ensures.yes c.if-size_refused.true);
-      put = c.put_survey_refused.ensures;
-      short = omega (arith, survey_short 1 (omega arith), c.put_survey_refused.ensures.ends);
+      turned = bad_sizes c.in-Some.sizes.first c.in-Some.sizes.second c.in-Some.sizes.next c.in-Some.ensures (c.size_refused.ensures.yes c.if-size_refused.true);
+      put = c.put_survey_refused-used.ensures;
+      short = omega (arith, survey_short 1 (omega arith), c.put_survey_refused-used.ensures.ends);
     }
-
-pub open_map-requires : goal.open_map-requires
-open_map-requires c = (record { line = c.in-Line.ensures; accepted = c.size_refused.ensures.no c.if-size_refused.false }, c.requires)

@@ -1,17 +1,12 @@
 -- `places::find` meets its contract. Assumes nothing.
 use native.Mathlib.Omega.{arith}
-use mathlib.Core.Path.{sym, ◌∙◌}
-use Rattle.places.proofs.Cells.{bound_found, bound_other, bound_end}
+use Rattle.places.proofs.Cells.{narrow_some, narrow_none, search_found, index_none}
 use Rattle.places.proofs.find.Goals as goal
 
-pub lower_bound-at-requires : goal.lower_bound-at-requires
-lower_bound-at-requires c = c.requires
-
-pub returns-then-cells-at : goal.returns-then-cells-at
-returns-then-cells-at c = bound_end _ c.requires _ _ c.lower_bound-at.ensures c.if-cells-at.true
-
-pub returns-then-c-cell : goal.returns-then-c-cell
-returns-then-c-cell c = bound_found _ c.requires _ _ c.lower_bound-at.ensures (omega arith) (sym c.wide-c.ensures.same ∙ c.if-c-cell.true)
+pub returns-in_err-x : goal.returns-in_err-x
+returns-in_err-x c =
+    rw c.from_residual.ensures
+    (index_none _ _ (λ i h q. let big = narrow_none _ c.try_from.ensures c.in_err-x.ensures.value in omega (arith, big, q, c.type_inv.cells i)))
 
 pub returns : goal.returns
-returns c = bound_other _ c.requires _ _ c.lower_bound-at.ensures (omega arith) (λ q. c.if-c-cell.false (c.wide-c.ensures.same ∙ q))
+returns c = rw (c.ok-2.ensures.value, ← narrow_some _ c.try_from.ensures c.in_ok-x.ensures.value) (search_found _ c.requires _ _ c.binary_search.ensures.position)

@@ -1,13 +1,14 @@
 -- `places::flagged` meets its contract. Assumes nothing.
-use native.Mathlib.Omega.{arith}
-use borrow.Author.Tests.{lt-ltb, le-ltb}
+use Rattle.std.specs.Prelude.{◌≡◌, Bool, true, false, cond, Some, None}
+use Rattle.std.proofs.Common.{refl}
+use Rattle.std.specs.Bool.{then_some}
 use Rattle.places.specs.Chart.{flagged}
 use Rattle.places.proofs.flagged.Goals as goal
 
-pub returns-then-f-gt0 : goal.returns-then-f-gt0
-unfolding flagged
-returns-then-f-gt0 c = rw (← c.get-f.ensures, lt-ltb 0 c.get-f.result (omega arith))
+then_cond : {A : Type 0} (b : Bool) (x : A) → then_some b x ≡ cond b (Some x) None
+then_cond true x = refl
+then_cond false x = refl
 
 pub returns : goal.returns
 unfolding flagged
-returns c = rw (← c.get-f.ensures, le-ltb 0 c.get-f.result (omega arith))
+returns c = let e = c.then_some.ensures in rw (e, then_cond, c.get.ensures)

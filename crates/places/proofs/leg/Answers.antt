@@ -3,9 +3,6 @@ use Rattle.places.specs.Places.{apart}
 use Rattle.places.proofs.Cells.{offset_x, offset_y}
 use Rattle.places.proofs.leg.Goals as goal
 
-pub weigh-requires : goal.weigh-requires
-weigh-requires c = rw (c.apart-dx.ensures, c.apart-dy.ensures) (offset_x _ _ _ c.requires, offset_y _ _ _ c.requires)
-
 pub returns : goal.returns
 unfolding apart
 returns c = record { apart = rw (c.weigh.ensures.weight, c.apart-dx.ensures, c.apart-dy.ensures); bounded = c.weigh.ensures.bounded }

@@ -4,13 +4,10 @@ use borrow.Author.Tests.{lt-ltb, le-ltb}
 use Rattle.places.specs.Chart.{count_of}
 use Rattle.places.proofs.link_count.Goals as goal
 
-pub arc_count-requires : goal.arc_count-requires
-arc_count-requires c = record { inside = omega (arith, c.requires.starts); rising = c.requires.rising c.args.u (omega arith) }
-
-pub returns-then-u-k : goal.returns-then-u-k
+pub returns-then-u-roads : goal.returns-then-u-roads
 unfolding count_of
-returns-then-u-k c = rw (lt-ltb c.args.u c.args.k (omega arith), c.arc_count.ensures.arcs)
+returns-then-u-roads c = rw (lt-ltb c.args.u c.args.roads.now.trip.k (omega arith), c.neighbours_of.ensures.count)
 
-pub returns : goal.returns
+pub returns-else-u-roads : goal.returns-else-u-roads
 unfolding count_of
-returns c = rw (le-ltb c.args.u c.args.k (omega arith))
+returns-else-u-roads c = rw (le-ltb c.args.u c.args.roads.now.trip.k (omega arith))

@@ -1,15 +1,23 @@
--- `reading::bit_of` meets its contract: the tests are those of a free letter. Assumes nothing.
-use mathlib.Core.Path.{sym, ◌∙◌}
+-- `reading::bit_of` meets its contract: the test is that of a free letter. Assumes nothing.
+use Prim.Native.Nat.{◌<◌}
+use mathlib.Core.Bool.{Bool, true, false, not}
+use mathlib.Core.Path.{◌≡◌, refl, sym, ap, ◌∙◌}
 use native.Mathlib.Omega.{arith}
-use borrow.Author.Tests.{eq-eqb, ne_eqb}
+use lib.Dec.{eqb}
+use mir.Val.{bool_byte}
 use Rattle.reading.proofs.Letters.{past_letters, in_letters}
 use Rattle.reading.proofs.bit_of.Goals as goal
 
-pub returns-then-w-x : goal.returns-then-w-x
-returns-then-w-x c = (omega arith, past_letters _ _ _ c.if-w-x.true)
+-- the number of a test that fails is 0 exactly where the test does not
+bit : (b : Bool) → (bool_byte (not b) < 2) × (eqb (bool_byte (not b)) 0 ≡ b)
+bit true = (omega arith, refl)
+bit false = (omega arith, refl)
 
-pub returns-then-text-at-eq-FREE : goal.returns-then-text-at-eq-FREE
-returns-then-text-at-eq-FREE c = let a = c.args in (omega arith, sym (eq-eqb _ 46 c.if-text-at-eq-FREE.true) ∙ in_letters a.text.now a.at a.w a.x c.if-w-x.false)
+pub returns-in-Some : goal.returns-in-Some
+returns-in-Some c =
+    let at = c.in-Some.ensures.lookup.3 in
+    let b = bit (eqb c.in-Some.letter.now 46) in
+    rw c.from.ensures (b.0, b.1 ∙ ap (λ x. eqb x 46) (at.1 0) ∙ in_letters c.args.letters.now c.args.x at.0)
 
-pub returns-else-text-at-eq-FREE : goal.returns-else-text-at-eq-FREE
-returns-else-text-at-eq-FREE c = let a = c.args in (omega arith, sym (ne_eqb _ 46 c.if-text-at-eq-FREE.false) ∙ in_letters a.text.now a.at a.w a.x c.if-w-x.false)
+pub returns-in-None : goal.returns-in-None
+returns-in-None c = (omega arith, past_letters _ _ _ c.in-None.ensures.lookup.3)

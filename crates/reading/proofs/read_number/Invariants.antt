@@ -6,8 +6,8 @@ use Rattle.writing.specs.Numbers.{Decimal}
 use Rattle.reading.specs.Lines.{At}
 use Rattle.reading.proofs.read_number.Given as goal
 
-abbrev pub invariant-loop-at : goal.invariant-loop-at
-invariant-loop-at l = At (Decimal l.value) l.text l.at l.next × (l.value ≤ 999) × (l.next ≤ length l.text)
+abbrev pub invariant-loop-digit : goal.invariant-loop-digit
+invariant-loop-digit l = At (Decimal l.value) l.text l.at l.next × (l.value ≤ 999) × (l.next ≤ length l.text)
 
-abbrev pub decreases-loop-at : goal.decreases-loop-at
-decreases-loop-at l = length l.text - l.next
+abbrev pub decreases-loop-digit : goal.decreases-loop-digit
+decreases-loop-digit l = length l.text - l.next

@@ -2,43 +2,25 @@
 use mathlib.Core.Logic.{inl, inr}
 use mathlib.Core.Path.{refl}
 use native.Mathlib.Omega.{arith}
-use Rattle.replying.proofs.Answers.{route_holds}
+use Rattle.replying.proofs.Buffers.{put_part}
 use Rattle.replying.proofs.reply_to.Goals as goal
-
-pub returns-in_default : goal.returns-in_default
-returns-in_default c = inr (c.in_default.ensures, c.refuse.ensures)
-
-pub ask-a-requires : goal.ask-a-requires
-ask-a-requires c = let w = c.requires.walkable in record { floor = w.floor; plan = w.fits }
-
-pub put_reply_at-requires : goal.put_reply_at-requires
-put_reply_at-requires c =
-    let k = c.ask-a.auto.route in (
-      record {
-        written = λ z. omega (arith, route_holds _ _ _ _ c.ask-a.ensures z, k);
-        few = omega (arith, k, c.requires.begins.1.route_size);
-      },
-      c.requires.begins.1.out_size,
-    )
-
-pub after-requires : goal.after-requires
-after-requires c = omega (arith, c.requires.begins.0.numbered, c.requires.begins.0.inside, c.well_formed)
 
 pub returns : goal.returns
 returns c =
+    let p = c.put_reply-n.ensures in
     inl
     (record {
-      next = c.in-Line.next;
-      end = c.put_reply_at.result;
-      is = c.after.ensures;
+      next = c.in-Some.trip.next;
+      end = _;
+      is = refl;
       bytes = _;
       reply =
           record {
-            x = c.in-Line.x;
-            y = c.in-Line.y;
-            u = c.in-Line.u;
-            v = c.in-Line.v;
-            line = c.in-Line.ensures;
+            x = c.in-Some.trip.start.x;
+            y = c.in-Some.trip.start.y;
+            u = c.in-Some.trip.goal.x;
+            v = c.in-Some.trip.goal.y;
+            line = c.in-Some.ensures;
             reply =
                 record {
                   route = c.args.route.now;
@@ -52,5 +34,5 @@ returns c =
                   line = refl;
                 };
           };
-      line = c.put_reply_at.ensures;
+      line = record { put = put_part c.args.out.now _ c.args.spot.used _ _ _ refl p.put; short = p.short };
     })

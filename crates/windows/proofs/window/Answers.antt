@@ -5,4 +5,4 @@ use Rattle.windows.proofs.window.Goals as goal
 
 pub returns : goal.returns
 unfolding window_of triple
-returns c = cc (add-one c.args.y, add-two c.args.y)
+returns c = cc (add-one c.args.cell.y, add-two c.args.cell.y)

@@ -4,7 +4,7 @@ use native.Mathlib.Omega.{arith}
 use lib.ListN.{length, length-append}
 use Rattle.writing.specs.Numbers.{decimal}
 use Rattle.writing.specs.Answers.{spaced, answer_numbers}
-use Rattle.writing.proofs.Puts.{put_then}
+use Rattle.writing.proofs.Puts.{grown_then, put_back}
 use Rattle.writing.proofs.put_answer.Goals as goal
 use Rattle.writing.proofs.put_answer.Goals.{Start}
 
@@ -15,34 +15,32 @@ total : (s : Start)
 unfolding answer_numbers
 total s = omega (arith, simp length-append at s.requires)
 
-pub put_number-p-requires : goal.put_number-p-requires
-put_number-p-requires c = omega (arith, total (goal.at.put_number-p-requires c).Start)
+pub number-requires : goal.number-requires
+number-requires c = omega (arith, total (goal.at.number-requires c).Start)
 
-pub put_spaced-q-requires : goal.put_spaced-q-requires
-put_spaced-q-requires c = omega (arith, total (goal.at.put_spaced-q-requires c).Start)
+pub spaced-requires : goal.spaced-requires
+spaced-requires c = omega (arith, total (goal.at.spaced-requires c).Start)
 
-pub put_spaced-r-requires : goal.put_spaced-r-requires
-put_spaced-r-requires c = omega (arith, total (goal.at.put_spaced-r-requires c).Start)
+pub spaced-requires-2 : goal.spaced-requires-2
+spaced-requires-2 c = omega (arith, total (goal.at.spaced-requires-2 c).Start)
 
-pub put_spaced-s-requires : goal.put_spaced-s-requires
-put_spaced-s-requires c = omega (arith, total (goal.at.put_spaced-s-requires c).Start)
+pub spaced-requires-3 : goal.spaced-requires-3
+spaced-requires-3 c = omega (arith, total (goal.at.spaced-requires-3 c).Start)
 
-pub put_spaced-t-requires : goal.put_spaced-t-requires
-put_spaced-t-requires c = omega (arith, total (goal.at.put_spaced-t-requires c).Start)
+pub spaced-requires-4 : goal.spaced-requires-4
+spaced-requires-4 c = omega (arith, total (goal.at.spaced-requires-4 c).Start)
 
-pub put_spaced-requires : goal.put_spaced-requires
-put_spaced-requires c = omega (arith, total (goal.at.put_spaced-requires c).Start)
-
-pub shape_of-out : goal.shape_of-out
-shape_of-out c = omega arith
+pub spaced-requires-5 : goal.spaced-requires-5
+spaced-requires-5 c = omega (arith, total (goal.at.spaced-requires-5 c).Start)
 
 pub returns : goal.returns
 unfolding answer_numbers
 returns c =
-    put_then (omega arith)
-    (put_then (omega arith)
-    (put_then (omega arith)
-    (put_then (omega arith) (put_then (omega arith) c.put_number-p.ensures c.put_spaced-q.ensures) c.put_spaced-r.ensures)
-    c.put_spaced-s.ensures)
-    c.put_spaced-t.ensures)
-    c.put_spaced.ensures
+    let g = grown_then (omega arith)
+    (grown_then (omega arith)
+    (grown_then (omega arith)
+    (grown_then (omega arith) (grown_then (omega arith) c.number.ensures c.spaced.ensures) c.spaced-2.ensures)
+    c.spaced-3.ensures)
+    c.spaced-4.ensures)
+    c.spaced-5.ensures in
+    put_back (let s = g.same in grind arith) g.put

@@ -3,7 +3,7 @@ use Prim.Native.Nat.{◌+◌, ◌≤◌}
 use native.Mathlib.Omega.{arith}
 use lib.ListN.{length, length-append}
 use Rattle.writing.specs.Answers.{named, spaced, floor_name, free_name, corners_name, arcs_name, floor_line}
-use Rattle.writing.proofs.Puts.{put_then}
+use Rattle.writing.proofs.Puts.{grown_then, put_back}
 use Rattle.writing.proofs.put_floor.Goals as goal
 use Rattle.writing.proofs.put_floor.Goals.{Start}
 
@@ -14,34 +14,32 @@ total : (s : Start)
 unfolding floor_line
 total s = omega (arith, simp length-append at s.requires)
 
-pub put_named-a-requires : goal.put_named-a-requires
-put_named-a-requires c = omega (arith, total (goal.at.put_named-a-requires c).Start)
+pub named-requires : goal.named-requires
+named-requires c = omega (arith, total (goal.at.named-requires c).Start)
 
-pub put_spaced-b-requires : goal.put_spaced-b-requires
-put_spaced-b-requires c = omega (arith, total (goal.at.put_spaced-b-requires c).Start)
+pub spaced-requires : goal.spaced-requires
+spaced-requires c = omega (arith, total (goal.at.spaced-requires c).Start)
 
-pub put_named-c-requires : goal.put_named-c-requires
-put_named-c-requires c = omega (arith, total (goal.at.put_named-c-requires c).Start)
+pub named-requires-2 : goal.named-requires-2
+named-requires-2 c = omega (arith, total (goal.at.named-requires-2 c).Start)
 
-pub put_named-d-requires : goal.put_named-d-requires
-put_named-d-requires c = omega (arith, total (goal.at.put_named-d-requires c).Start)
+pub named-requires-3 : goal.named-requires-3
+named-requires-3 c = omega (arith, total (goal.at.named-requires-3 c).Start)
 
-pub put_named-e-requires : goal.put_named-e-requires
-put_named-e-requires c = omega (arith, total (goal.at.put_named-e-requires c).Start)
+pub named-requires-4 : goal.named-requires-4
+named-requires-4 c = omega (arith, total (goal.at.named-requires-4 c).Start)
 
-pub put_text-requires : goal.put_text-requires
-put_text-requires c = omega (arith, total (goal.at.put_text-requires c).Start)
-
-pub shape_of-out : goal.shape_of-out
-shape_of-out c = omega arith
+pub text-requires : goal.text-requires
+text-requires c = omega (arith, total (goal.at.text-requires c).Start)
 
 pub returns : goal.returns
 unfolding floor_line
 returns c =
-    put_then (omega arith)
-    (put_then (omega arith)
-    (put_then (omega arith)
-    (put_then (omega arith) (put_then (omega arith) c.put_named-a.ensures c.put_spaced-b.ensures) c.put_named-c.ensures)
-    c.put_named-d.ensures)
-    c.put_named-e.ensures)
-    c.put_text.ensures
+    let g = grown_then (omega arith)
+    (grown_then (omega arith)
+    (grown_then (omega arith)
+    (grown_then (omega arith) (grown_then (omega arith) c.named.ensures c.spaced.ensures) c.named-2.ensures)
+    c.named-3.ensures)
+    c.named-4.ensures)
+    c.text.ensures in
+    put_back (let s = g.same in grind arith) g.put

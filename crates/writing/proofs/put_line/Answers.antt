@@ -3,7 +3,7 @@ use Prim.Native.Nat.{◌+◌, ◌≤◌}
 use native.Mathlib.Omega.{arith}
 use lib.ListN.{length, length-append}
 use Rattle.writing.specs.Answers.{named, number_line}
-use Rattle.writing.proofs.Puts.{put_then}
+use Rattle.writing.proofs.Puts.{grown_then, put_back}
 use Rattle.writing.proofs.put_line.Goals as goal
 use Rattle.writing.proofs.put_line.Goals.{Start}
 
@@ -12,15 +12,12 @@ total : (s : Start) → length (named s.args.name.now s.args.number) + 1 ≤ len
 unfolding number_line
 total s = omega (arith, simp length-append at s.requires)
 
-pub put_named-end-requires : goal.put_named-end-requires
-put_named-end-requires c = omega (arith, total (goal.at.put_named-end-requires c).Start)
+pub named-requires : goal.named-requires
+named-requires c = omega (arith, total (goal.at.named-requires c).Start)
 
-pub put_text-requires : goal.put_text-requires
-put_text-requires c = omega (arith, total (goal.at.put_text-requires c).Start)
+pub text-requires : goal.text-requires
+text-requires c = omega (arith, total (goal.at.text-requires c).Start)
 
 pub returns : goal.returns
 unfolding number_line
-returns c = put_then (omega arith) c.put_named-end.ensures c.put_text.ensures
-
-pub shape_of-out : goal.shape_of-out
-shape_of-out c = omega arith
+returns c = let g = grown_then (omega arith) c.named.ensures c.text.ensures in put_back (let s = g.same in grind arith) g.put

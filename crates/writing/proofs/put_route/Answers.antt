@@ -1,45 +1,44 @@
 -- `writing::put_route` meets its contract. The loop's invariant: the cells passed have been written. Assumes nothing.
-use mathlib.Core.Path.{◌≡◌, refl, sym, ap, ◌∙◌}
+use Prim.Native.Nat.{◌+◌, ◌≤◌}
+use mathlib.Core.Path.{sym, ap}
 use native.Mathlib.Omega.{arith}
-use lib.ListN.{take}
+use lib.ListN.{length}
 use lib.Seq.{take_all}
-use borrow.Author.Rules.{rules}
 use Rattle.writing.specs.Answers.{cell_bytes, route_cells}
-use Rattle.writing.proofs.Puts.{put_none, put_then, put_same, cells_none, cells_more, cells_room, route_then}
+use Rattle.writing.proofs.Puts.{grown_none, grown_then, grown_same, put_back, cells_none, cells_more, cells_room, route_then}
 use Rattle.writing.proofs.put_route.Goals as goal
+use Rattle.writing.proofs.put_route.Goals.{Start}
 
-pub put_text-at-requires : goal.put_text-at-requires
+-- the colon and the cells have room together
+total : (s : Start) → s.args.from + (2 + length (cell_bytes s.args.route.now)) ≤ length s.args.out.now
 unfolding route_cells
-put_text-at-requires c = omega (arith, c.requires)
+total s = omega (arith, s.requires)
 
-pub loop-i-init : goal.loop-i-init
-unfolding route_cells
-loop-i-init c =
-    (search rules, omega (arith, c.requires, c.put_text-at.auto.out, c.put_text-at.ensures.ends), refl, put_same (sym cells_none) (put_none _ _))
+pub text-requires : goal.text-requires
+text-requires c = omega (arith, total (goal.at.text-requires c).Start)
 
-pub overflow_cast-route : goal.overflow_cast-route
-overflow_cast-route c = omega arith
+pub loop-cell-init : goal.loop-cell-init
+loop-cell-init c = grown_same (sym cells_none) (grown_none _)
 
-pub put_spaced-at-requires : goal.put_spaced-at-requires
-put_spaced-at-requires c =
-    let inv = c.loop-i.invariant in
-    omega (arith, cells_room c.args.route.now c.loop-i.i (search rules), inv.1, inv.2, inv.3.ends)
+pub spaced-requires : goal.spaced-requires
+spaced-requires c =
+    let l = c.loop-cell in
+    let p = l.invariant.put in
+    rw c.from.ensures
+    (omega (arith, total (goal.at.spaced-requires c).Start, cells_room c.args.route.now l.cell-index (omega arith), p.ends, l.invariant.long, c.text.ensures.put.ends, c.text.ensures.long))
 
-pub loop-i-preserved : goal.loop-i-preserved
-loop-i-preserved c =
-    let inv = c.loop-i.invariant in (
-      search rules,
-      inv.1,
-      c.put_spaced-at.auto.out ∙ inv.2,
-      put_same (cells_more c.args.route.now c.loop-i.i (search rules)) (put_then (omega (arith, inv.1)) inv.3 c.put_spaced-at.ensures),
-    )
-
-pub shape_of-out : goal.shape_of-out
-shape_of-out c = c.loop-i.invariant.2 ∙ c.put_text-at.auto.out
+pub loop-cell-preserved : goal.loop-cell-preserved
+loop-cell-preserved c =
+    let l = c.loop-cell in
+    grown_same
+    (cells_more c.args.route.now l.cell-index (omega arith))
+    (grown_then (omega (arith, total (goal.at.loop-cell-preserved c).Start, c.text.ensures.put.ends, c.text.ensures.long)) l.invariant (rw c.from.ensures at c.spaced.ensures))
 
 pub returns : goal.returns
 returns c =
-    let all : take c.loop-i.i c.args.route.now ≡ c.args.route.now = take_all c.loop-i.i c.args.route.now c.loop-i-test.false in
-    put_same
+    let l = c.loop-cell in
+    let g = grown_same
     (route_then c.args.route.now)
-    (put_then (omega (arith, c.requires)) c.put_text-at.ensures (put_same (ap cell_bytes all) c.loop-i.invariant.3))
+    (grown_then (omega (arith, total (goal.at.returns c).Start)) c.text.ensures
+    (grown_same (ap cell_bytes (take_all l.cell-index c.args.route.now (omega arith))) l.invariant)) in
+    put_back (let s = g.same in grind arith) g.put

@@ -1,27 +1,28 @@
 -- `plan::inserting::insert` meets its contract: t is there already, or there is no room, or what stands behind it moves on. Assumes nothing.
-use mathlib.Core.Logic.{inl, inr}
-use borrow.Author.Rules.{rules}
-use lib.ListN.{length-set}
+use Rattle.std.proofs.Common.{Ok, Err, inl, inr}
 use Rattle.plan.proofs.Insertions.{inserted_there, inserted_full, inserted_new}
+use Rattle.plan.proofs.Searches.{told}
 use Rattle.plan.proofs.inserting.insert.Goals as goal
+use Rattle.plan.proofs.inserting.insert.Goals.{then-list-m-via-then-list-m, then-list-m-via-else-list-m+then-m-ge-MAX_ARCS}
 
-pub returns-then-stands : goal.returns-then-stands
-returns-then-stands c = inserted_there _ _ _ _ _ (search rules) (search rules) c.find-i.ensures (c.stands.ensures.yes c.if-stands.true)
+pub returns-in-Ok : goal.returns-in-Ok
+returns-in-Ok c =
+    let p = c.requires.place in
+    let h = told _ _ c.requires.rising (Ok c.in-Ok.field-0) c.in-Ok.ensures.position in
+    inserted_there _ _ _ p.0 p.1 _ _ c.requires.rising h.0 h.1
 
 pub returns-then-list-m : goal.returns-then-list-m
 returns-then-list-m c =
-    inserted_full _ _ _ _ _ (search rules) (search rules) c.find-i.ensures (c.stands.ensures.no c.if-stands.false)
-    (inl (search rules))
-
-pub returns-then-m-ge-MAX_ARCS : goal.returns-then-m-ge-MAX_ARCS
-returns-then-m-ge-MAX_ARCS c =
-    inserted_full _ _ _ _ _ (search rules) (search rules) c.find-i.ensures
-    (c.stands.ensures.no c.if-stands.false) (inr (search rules))
-
-pub shape_of-list : goal.shape_of-list
-shape_of-list c = simp length-set c.shift_on.auto.list
+    let p = c.requires.place in
+    let h = told _ _ c.requires.rising (Err c.in-Err.place) c.in-Err.ensures.position in
+    inserted_full _ _ _ p.0 p.1 _ _ h.0 h.1 h.2
+    (elim c.then-list-m.branch [
+      | then-list-m-via-then-list-m w ↦ inl w.if-list-m.true
+      | then-list-m-via-else-list-m+then-m-ge-MAX_ARCS w ↦ inr w.if-m-ge-MAX_ARCS.true
+    ])
 
 pub returns : goal.returns
 returns c =
-    inserted_new _ _ _ _ _ (search rules) (search rules) c.find-i.ensures (c.stands.ensures.no c.if-stands.false)
-    (search rules) (search rules) _ c.shift_on.ensures
+    let p = c.requires.place in
+    let h = told _ _ c.requires.rising (Err c.in-Err.place) c.in-Err.ensures.position in
+    inserted_new _ _ _ p.0 p.1 c.args.t c.in-Err.place h.0 h.1 h.2 c.if-list-m.false c.if-m-ge-MAX_ARCS.false _ c.copy_within.ensures.after

@@ -7,17 +7,8 @@ use Rattle.writing.proofs.Puts.{put_none}
 use Rattle.replying.specs.Pieces.{past, over}
 use Rattle.replying.proofs.filling.finish.Goals as goal
 
-pub returns-then-spot : goal.returns-then-spot
-returns-then-spot c = inl (record { is = refl; kept = refl; reason = inl c.if-spot.true })
-
-pub returns-then-spot-text : goal.returns-then-spot-text
-returns-then-spot-text c = inl (record { is = refl; kept = refl; reason = inr c.if-spot-text.true })
-
-pub refuse-requires : goal.refuse-requires
-refuse-requires c = c.requires c.if-spot.false
-
-pub returns-then-more : goal.returns-then-more
-returns-then-more c =
+pub returns-then-input : goal.returns-then-input
+returns-then-input c =
     let p = c.refuse.ensures in
     inr
     (record {
@@ -27,7 +18,7 @@ returns-then-more c =
       tail = _;
       put = p.line.put;
       short = p.line.short;
-      ending = λ i. let l = c.if-spot-text.false in past (omega arith) c.if-more.true;
+      ending = λ i. let l = c.if-spot-input.false in past (omega arith) c.if-input.true;
     })
 
 pub returns : goal.returns
@@ -40,5 +31,5 @@ returns c =
       tail = [];
       put = put_none _ _;
       short = omega arith;
-      ending = λ i. let l = c.if-spot-text.false in over (omega arith) c.if-more.false;
+      ending = λ i. let l = c.if-spot-input.false in over (omega arith) c.if-input.false;
     })
