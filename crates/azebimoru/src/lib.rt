@@ -11,7 +11,6 @@ ghost use Rattle.azebimoru.specs.Matches.{OwnPlan};
 use floor::Cell;
 use lengths::Length;
 use plan::Plan;
-use std::cmp::Ordering;
 use survey::Surveyed;
 use telling::Answer;
 
@@ -28,11 +27,8 @@ pub extern "C" fn azebimoru_compare(a: u16, b: u16, c: u16, d: u16) -> i32
         straight: c,
         diagonal: d,
     };
-    match x.cmp(&y) {
-        Ordering::Less => -1,
-        Ordering::Equal => 0,
-        Ordering::Greater => 1,
-    }
+    // By its number and not by `cmp`: told as an Ordering and turned back, it takes more than twice as long where signs differ (measured).
+    lengths::compare(x, y)
 }
 
 // Writes the plan of a floor into the four lists, or refuses by number.

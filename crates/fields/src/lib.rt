@@ -189,7 +189,8 @@ fn beyond(field: usize, row: usize, shown: Option<usize>) -> Option<usize>
 }
 
 // Passes row `row` of a field from a cell: what it shows, and how far the next may reach if there is one. Clearances tell it all: of the floor
-// its width alone is read, and the rest is there for the promise.
+// its width alone is read, and the rest is there for the promise. Put into each caller: a RowEnd that is handed back goes through memory (measured).
+#[inline(always)]
 pub fn pass_row(
     floor: &Floor,
     clear: &[u8],

@@ -88,5 +88,5 @@ pub fn count_free(words: &[u64]) -> u32
     requires { length words.now ≤ 1020 }
     ensures { result ≡ clear_bits words.now (length words.now) }
 {
-    words.iter().map(|word| word.count_zeros()).sum()
+    words.iter().map(|word| 64 - word.count_ones()).sum()
 }

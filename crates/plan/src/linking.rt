@@ -55,9 +55,11 @@ pub fn link_one(
     requires { on Sweepable floor.now.grid cell clear.now × ((from ≤ length list.old) × (from ≤ 32768)) }
     ensures { on OneLinked floor.now.grid cell list.old from result list.new }
 {
+    // A copy, which no write to the list can reach: so the cell's column and row are reckoned once and not for each field (measured).
+    let floor = *floor;
     let mut end = from;
     for field in 0..8 {
-        end = link_field(floor, clear, list, from, end, cell, field)?;
+        end = link_field(&floor, clear, list, from, end, cell, field)?;
     }
     Some(end)
 }

@@ -1,20 +1,19 @@
 -- `plan::inserting::insert` meets its contract: t is there already, or there is no room, or what stands behind it moves on. Assumes nothing.
-use Rattle.std.proofs.Common.{Ok, Err, inl, inr}
+use Rattle.std.proofs.Common.{inl, inr}
 use Rattle.plan.proofs.Insertions.{inserted_there, inserted_full, inserted_new}
-use Rattle.plan.proofs.Searches.{told}
 use Rattle.plan.proofs.inserting.insert.Goals as goal
 use Rattle.plan.proofs.inserting.insert.Goals.{then-list-m-via-then-list-m, then-list-m-via-else-list-m+then-m-ge-MAX_ARCS}
 
 pub returns-in-Ok : goal.returns-in-Ok
 returns-in-Ok c =
     let p = c.requires.place in
-    let h = told _ _ c.requires.rising (Ok c.in-Ok.field-0) c.in-Ok.ensures.position in
+    let h = c.in-Ok.ensures in
     inserted_there _ _ _ p.0 p.1 _ _ c.requires.rising h.0 h.1
 
 pub returns-then-list-m : goal.returns-then-list-m
 returns-then-list-m c =
     let p = c.requires.place in
-    let h = told _ _ c.requires.rising (Err c.in-Err.place) c.in-Err.ensures.position in
+    let h = c.in-Err.ensures in
     inserted_full _ _ _ p.0 p.1 _ _ h.0 h.1 h.2
     (elim c.then-list-m.branch [
       | then-list-m-via-then-list-m w ↦ inl w.if-list-m.true
@@ -24,5 +23,5 @@ returns-then-list-m c =
 pub returns : goal.returns
 returns c =
     let p = c.requires.place in
-    let h = told _ _ c.requires.rising (Err c.in-Err.place) c.in-Err.ensures.position in
+    let h = c.in-Err.ensures in
     inserted_new _ _ _ p.0 p.1 c.args.t c.in-Err.place h.0 h.1 h.2 c.if-list-m.false c.if-m-ge-MAX_ARCS.false _ c.copy_within.ensures.after
