@@ -27,7 +27,7 @@ pub extern "C" fn azebimoru_compare(a: u16, b: u16, c: u16, d: u16) -> i32
         straight: c,
         diagonal: d,
     };
-    // By its number and not by `cmp`: told as an Ordering and turned back, it takes more than twice as long where signs differ (measured).
+    // By its number and not by `cmp`: told as an Ordering and turned back, it takes about twice as long where signs differ (measured).
     lengths::compare(x, y)
 }
 

@@ -1,5 +1,5 @@
 -- What a binary search tells of an ascending list. Assumes nothing.
-use Rattle.std.proofs.Common.{◌≡◌, ℕ, ◌≤◌, ◌<◌, Bool, List, length, get_or, Result, Ok, Err, MatchResult, ⊎_elim, subst, arith}
+use Rattle.std.proofs.Common.{◌≡◌, ℕ, ◌≤◌, ◌<◌, Bool, List, length, get_or, Result, Ok, Err, ⊎_elim, subst, arith}
 use Rattle.std.specs.List.Sorted.{IsBinarySearchResult}
 use Rattle.std.specs.Ordering.{nat_cmp}
 use Rattle.std.specs.Result.{is_ok}
@@ -8,6 +8,7 @@ use Rattle.lengths.specs.Laws.{le_or_lt}
 use Rattle.floor.specs.Refusals.{Tells}
 use Rattle.floor.proofs.Tables.{found, missing}
 use Rattle.plan.specs.Rising.{In, Rising}
+use Rattle.plan.specs.Inserting.{Placed}
 use Rattle.plan.proofs.Risings.{at_in, rising_later}
 use Rattle.plan.proofs.Parts.{in_at}
 
@@ -18,9 +19,7 @@ rising_le xs r i j l m =
 
 module _ (xs : List ℕ) (t : ℕ) (rising : Rising xs) where
   -- the place where t stands, or the one where it belongs
-  pub told : (r : Result ℕ ℕ) → IsBinarySearchResult (λ y. nat_cmp y t) xs r →
-      MatchResult r (λ i. (i < length xs) × (get_or xs i 0 ≡ t))
-      (λ i. (i ≤ length xs) × ((k : ℕ) → k < i → get_or xs k 0 < t) × ((k : ℕ) → i ≤ k → k < length xs → t < get_or xs k 0))
+  pub told : (r : Result ℕ ℕ) → IsBinarySearchResult (λ y. nat_cmp y t) xs r → Placed xs t r
   told r p = searched xs t r p (rising_le xs rising)
 
   -- t stands in the list exactly where it is found

@@ -1,12 +1,13 @@
 -- What putting a neighbour in its place does to the list. These are states of code.
-use Rattle.std.specs.Prelude.{ℕ, suc, ◌+◌, ◌≤◌, ◌<◌, Option, Some, None, Result, Ok, Err, List, ◌++◌, ◌⊎◌, ◌≡◌, length, get_or, take, drop}
+use Rattle.std.specs.Prelude.{ℕ, suc, ◌+◌, ◌≤◌, ◌<◌, Option, Some, None, Result, MatchResult, List, ◌++◌, ◌⊎◌, ◌≡◌, length, get_or, take, drop}
 use Rattle.corners.specs.Lists.{part}
 use Rattle.plan.specs.Rising.{insertion}
 
 -- where t stands in a list, or where it belongs: behind smaller entries and before larger ones
 abbrev pub Placed : List ℕ → ℕ → Result ℕ ℕ → Type 0
-Placed xs t (Ok i) = (i < length xs) × (get_or xs i 0 ≡ t)
-Placed xs t (Err i) = (i ≤ length xs) × ((k : ℕ) → k < i → get_or xs k 0 < t) × ((k : ℕ) → i ≤ k → k < length xs → t < get_or xs k 0)
+Placed xs t r =
+    MatchResult r (λ i. (i < length xs) × (get_or xs i 0 ≡ t))
+    (λ i. (i ≤ length xs) × ((k : ℕ) → k < i → get_or xs k 0 < t) × ((k : ℕ) → i ≤ k → k < length xs → t < get_or xs k 0))
 
 -- the list with xs at the places from `from` on, and as it was before and behind them
 abbrev pub spliced : List ℕ → ℕ → List ℕ → List ℕ

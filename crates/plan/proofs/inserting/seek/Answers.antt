@@ -1,5 +1,5 @@
 -- `plan::inserting::seek` meets its contract: the first entry from behind that is not above t tells where t stands or belongs. Assumes nothing.
-use Rattle.std.proofs.Common.{◌≡◌, ℕ, ◌<◌, ◌≤◌, ◌-◌, ⊎_elim, arith}
+use Rattle.std.proofs.Common.{◌≡◌, ◌<◌, ◌≤◌, ◌-◌, ⊎_elim, arith}
 use Rattle.lengths.specs.Laws.{le_or_lt}
 use Rattle.plan.proofs.Risings.{rising_later}
 use Rattle.plan.proofs.inserting.seek.Goals as goal
